@@ -1,0 +1,296 @@
+//! Counts of what generated folders exercise, taken by running them through the
+//! model: a generator that misses a case shows a count of 0.
+
+use std::collections::BTreeMap;
+
+use crate::dead_time::{lookahead, offset_allows, turns_left_before_next, Lookahead, TurnsLeft};
+use crate::generate::Folder;
+use crate::planted::Planted;
+use crate::policy::{self, Policy, LONGEST_EPOCH, LONGEST_FILE, MOST_CLASSES, SHORTEST_FILE};
+use crate::program::read_trace;
+use crate::refusal::Refusal;
+use crate::state::{self, Request, State, QUEUE_LIMIT};
+use crate::tick::{
+    bank_gap_met, gap_of_all_met, offer_in_range, offset, tick_in_range, turn_number, TickRecord,
+    Wires,
+};
+use crate::trace::Word;
+
+/// The refusals that a folder can give. 12 needs 16,777,215 ticks, and 13 and
+/// 15 to 17 need calls that the program does not make.
+const REFUSALS: [u32; 12] = [1, 2, 3, 4, 5, 6, 7, 8, 9, 10, 11, 14];
+
+/// Everything that is counted besides refusals, class counts and left-over
+/// bytes.
+const CASES: [&str; 42] = [
+    "file under 17 bytes",
+    "file above 65,535 bytes",
+    "least class not 0",
+    "E = 1",
+    "E = 64",
+    "minimums 0",
+    "minimums equal to E",
+    "minimums one less than E",
+    "turn length one above the dead time",
+    "turn length 255",
+    "dead time 2",
+    "dead time 31",
+    "a gap of 1",
+    "a gap of the dead time",
+    "answer delay 2",
+    "answer delay of the dead time",
+    "column delay 1",
+    "column delay one less than the answer delay",
+    "turn starts",
+    "epoch starts after the first",
+    "dropped, the owner is the least class",
+    "dropped, the trial walk passes classes without turns left",
+    "kept, a class may not flow to the owner",
+    "kept, a class has turns left",
+    "kept by the caps of the next epoch alone",
+    "dropped by document 000's test alone",
+    "offers taken",
+    "offers taken just before a turn starts",
+    "offers taken just after a turn has started",
+    "offers of a bank above 7 alone",
+    "offers of a kind above 1 alone",
+    "a queue filled up",
+    "50 ticks in a row",
+    "activates",
+    "activates in a dead time that is dropped",
+    "columns",
+    "answers",
+    "columns in the turn of another owner",
+    "held back by a due column alone",
+    "held back by the gap of all alone",
+    "held back by the same-bank gap alone",
+    "held back by the dead time alone",
+];
+
+/// How often each case was met.
+pub struct Coverage {
+    counts: BTreeMap<String, u64>,
+}
+
+impl Default for Coverage {
+    fn default() -> Coverage {
+        Coverage::new()
+    }
+}
+
+impl Coverage {
+    /// Every case, met 0 times.
+    pub fn new() -> Coverage {
+        let refusals = REFUSALS.iter().map(|&number| refusal_name(number));
+        let classes = (1..=MOST_CLASSES).map(classes_name);
+        let left_over = (0..4).map(left_over_name);
+        let cases = CASES.iter().map(|name| name.to_string());
+        let names = refusals.chain(classes).chain(left_over).chain(cases);
+        Coverage {
+            counts: names.map(|name| (name, 0)).collect(),
+        }
+    }
+
+    /// Each case with its count.
+    pub fn counts(&self) -> impl Iterator<Item = (&str, u64)> {
+        self.counts
+            .iter()
+            .map(|(name, &count)| (name.as_str(), count))
+    }
+
+    fn met(&mut self, name: &str) {
+        *self.counts.entry(name.to_string()).or_insert(0) += 1;
+    }
+
+    fn met_if(&mut self, condition: bool, name: &str) {
+        if condition {
+            self.met(name);
+        }
+    }
+
+    /// Runs a folder and counts what it met.
+    pub fn add(&mut self, folder: &Folder) {
+        let length = folder.policy.len();
+        self.met_if(length < SHORTEST_FILE, "file under 17 bytes");
+        self.met_if(length > LONGEST_FILE, "file above 65,535 bytes");
+        let (policy, refusal) = policy::read(&folder.policy);
+        if let Some(refusal) = refusal {
+            return self.met(&refusal_name(refusal.number()));
+        }
+        self.add_policy(&policy);
+        let trace = read_trace(&folder.trace);
+        self.met(&left_over_name(trace.left_over));
+        let (mut state, _) = state::fresh(&policy);
+        for &number in &trace.numbers {
+            self.add_call(&policy, &mut state, number);
+        }
+        let idle = trace
+            .numbers
+            .windows(50)
+            .filter(|window| window.iter().all(|&n| n == 0));
+        self.met_if(idle.count() > 0, "50 ticks in a row");
+    }
+
+    fn add_policy(&mut self, policy: &Policy) {
+        let timing = &policy.timing;
+        let sum: u8 = policy.minimums.iter().sum();
+        let gaps: Vec<u8> = timing
+            .gaps
+            .iter()
+            .flatten()
+            .chain(&timing.bank_gaps)
+            .copied()
+            .collect();
+        self.met(&classes_name(policy.class_count()));
+        self.met_if(policy.least() != 0, "least class not 0");
+        self.met_if(policy.epoch == 1, "E = 1");
+        self.met_if(policy.epoch == LONGEST_EPOCH, "E = 64");
+        self.met_if(sum == 0, "minimums 0");
+        self.met_if(sum == policy.epoch, "minimums equal to E");
+        self.met_if(sum + 1 == policy.epoch, "minimums one less than E");
+        self.met_if(
+            timing.turn_length == timing.dead_time + 1,
+            "turn length one above the dead time",
+        );
+        self.met_if(timing.turn_length == 255, "turn length 255");
+        self.met_if(timing.dead_time == 2, "dead time 2");
+        self.met_if(timing.dead_time == 31, "dead time 31");
+        self.met_if(gaps.contains(&1), "a gap of 1");
+        self.met_if(gaps.contains(&timing.dead_time), "a gap of the dead time");
+        self.met_if(timing.response_delay == 2, "answer delay 2");
+        self.met_if(
+            timing.response_delay == timing.dead_time,
+            "answer delay of the dead time",
+        );
+        self.met_if(timing.column_delay == 1, "column delay 1");
+        self.met_if(
+            timing.column_delay + 1 == timing.response_delay,
+            "column delay one less than the answer delay",
+        );
+    }
+
+    fn add_call(&mut self, policy: &Policy, state: &mut State, number: u32) {
+        match Word::of(number) {
+            Word::Tick => match tick_in_range(policy, state, Planted::Nothing) {
+                Ok(record) => self.add_tick(policy, state, &record),
+                Err(refusal) => self.met(&refusal_name(refusal.number())),
+            },
+            Word::Offer(request) => match offer_in_range(policy, state, request) {
+                Ok(()) => self.add_taken(policy, state, &request),
+                Err(refusal) => {
+                    self.met(&refusal_name(refusal.number()));
+                    let [bank, kind] = [request.bank > 7, request.kind > 1];
+                    let class = refusal == Refusal::Class;
+                    self.met_if(!class && bank && !kind, "offers of a bank above 7 alone");
+                    self.met_if(!class && kind && !bank, "offers of a kind above 1 alone");
+                }
+            },
+            Word::Malformed => self.met(&refusal_name(14)),
+        }
+    }
+
+    /// Counts an offer by the state after it.
+    fn add_taken(&mut self, policy: &Policy, state: &State, request: &Request) {
+        let next_offset = offset(policy, state.cycle);
+        let waiting = state.classes[usize::from(request.class)].queue.len();
+        self.met("offers taken");
+        self.met_if(next_offset == 0, "offers taken just before a turn starts");
+        self.met_if(
+            next_offset == 1,
+            "offers taken just after a turn has started",
+        );
+        self.met_if(waiting == QUEUE_LIMIT, "a queue filled up");
+    }
+
+    /// Counts a tick by its record and the state after it.
+    fn add_tick(&mut self, policy: &Policy, state: &State, record: &TickRecord) {
+        let cycle = state.cycle - 1;
+        if record.turn.is_some() {
+            self.add_turn(policy, state, turn_number(policy, cycle));
+        }
+        let offset = offset(policy, cycle);
+        match record.wires {
+            Wires::Nothing => {}
+            Wires::Activate(_) => {
+                self.met("activates");
+                self.met_if(
+                    !offset_allows(policy, false, offset),
+                    "activates in a dead time that is dropped",
+                );
+            }
+            Wires::Column(request) => {
+                self.met("columns");
+                self.met_if(
+                    usize::from(request.class) != state.owner,
+                    "columns in the turn of another owner",
+                );
+            }
+        }
+        self.met_if(record.response.is_some(), "answers");
+        if !matches!(record.wires, Wires::Activate(_)) {
+            self.add_held_back(policy, state, record, cycle);
+        }
+    }
+
+    /// Counts an owner's head that was not activated, where there is one reason
+    /// only. No activate went out, so the state still has what the tick asked.
+    fn add_held_back(&mut self, policy: &Policy, state: &State, record: &TickRecord, cycle: u32) {
+        let Some(head) = state.classes[state.owner].queue.front() else {
+            return;
+        };
+        let column = matches!(record.wires, Wires::Column(_));
+        let dead_time = !offset_allows(policy, state.elided, offset(policy, cycle));
+        let gap_of_all = !gap_of_all_met(policy, state, head, cycle);
+        let bank_gap = !bank_gap_met(policy, state, head, cycle);
+        match [column, gap_of_all, bank_gap, dead_time] {
+            [true, false, false, false] => self.met("held back by a due column alone"),
+            [false, true, false, false] => self.met("held back by the gap of all alone"),
+            [false, false, true, false] => self.met("held back by the same-bank gap alone"),
+            [false, false, false, true] => self.met("held back by the dead time alone"),
+            _ => {}
+        }
+    }
+
+    /// Counts a turn's start by the state after its first tick, which has the
+    /// owner, pointers and turns left that the trial walk went by.
+    fn add_turn(&mut self, policy: &Policy, state: &State, turn: u32) {
+        self.met("turn starts");
+        self.met_if(
+            turn > 0 && turn % u32::from(policy.epoch) == 0,
+            "epoch starts after the first",
+        );
+        let by = turns_left_before_next(policy, turn);
+        let outcome = lookahead(policy, state, by);
+        let least = state.owner == policy.least();
+        self.met(match outcome {
+            Lookahead::ReachesOwner if least => "dropped, the owner is the least class",
+            Lookahead::ReachesOwner => "dropped, the trial walk passes classes without turns left",
+            Lookahead::MeetsClassThatMayNotFlow => "kept, a class may not flow to the owner",
+            Lookahead::MeetsClassWithTurnsLeft => "kept, a class has turns left",
+        });
+        let without_caps = lookahead(policy, state, TurnsLeft::OfThisEpoch);
+        self.met_if(
+            outcome != Lookahead::ReachesOwner && without_caps == Lookahead::ReachesOwner,
+            "kept by the caps of the next epoch alone",
+        );
+        let none_below_has_turns = (0..policy.class_count())
+            .filter(|&class| policy.strictly_below(class, state.owner))
+            .all(|class| state.classes[class].left == 0);
+        self.met_if(
+            outcome != Lookahead::ReachesOwner && none_below_has_turns,
+            "dropped by document 000's test alone",
+        );
+    }
+}
+
+fn refusal_name(number: u32) -> String {
+    format!("refusal {number:02}")
+}
+
+fn classes_name(n: usize) -> String {
+    format!("classes {n:02}")
+}
+
+fn left_over_name(count: usize) -> String {
+    format!("left-over bytes {count}")
+}

@@ -1,0 +1,91 @@
+//! "Dead time": when it is dropped, and what that allows.
+
+use crate::planted::Planted;
+use crate::policy::Policy;
+use crate::state::State;
+use crate::walk::{moved_pointer, named_cover};
+
+/// How the lookahead (document 01: trial walk) ends.
+#[derive(Clone, Copy, Debug, PartialEq, Eq)]
+pub(crate) enum Lookahead {
+    /// The owner is reached: the dead time is dropped.
+    ReachesOwner,
+    /// A class that may not flow to the owner comes before it: kept.
+    MeetsClassThatMayNotFlow,
+    /// A class with turns left comes before the owner: kept.
+    MeetsClassWithTurnsLeft,
+}
+
+/// The turns left that a lookahead goes by.
+#[derive(Clone, Copy, Debug, PartialEq, Eq)]
+pub(crate) enum TurnsLeft {
+    OfThisEpoch,
+    /// The caps, from which the next epoch starts.
+    AtTheCaps,
+}
+
+/// "It is dropped when a trial walk, by the marks as they would move and the
+/// turns left (the caps, in an epoch's last turn), reaches the owner".
+///
+/// Asked at a turn's start, after the walk: the state holds the pointers and
+/// turns left from which the next turn's walk will go on.
+pub(crate) fn is_elided(policy: &Policy, state: &State, turn: u32, planted: Planted) -> bool {
+    // All but the last case are no rules, but leaks that tests plant.
+    let by = match planted {
+        Planted::AlwaysElided => return true,
+        Planted::Document000Elision => return document_000_elides(policy, state),
+        Planted::EpochEndForgotten => TurnsLeft::OfThisEpoch,
+        _ => turns_left_before_next(policy, turn),
+    };
+    lookahead(policy, state, by) == Lookahead::ReachesOwner
+}
+
+/// "(the caps, in an epoch's last turn)": the next turn then starts an epoch.
+pub(crate) fn turns_left_before_next(policy: &Policy, turn: u32) -> TurnsLeft {
+    if (turn + 1) % u32::from(policy.epoch) == 0 {
+        TurnsLeft::AtTheCaps
+    } else {
+        TurnsLeft::OfThisEpoch
+    }
+}
+
+/// Document 01: the trial walk. "It starts at the least class; at each class
+/// before the owner it fails if that class may not flow to the owner or has
+/// turns left. The trial changes nothing."
+///
+/// No class is met twice, so one move of each pointer is all there is to
+/// remember of "the marks as they would move".
+pub(crate) fn lookahead(policy: &Policy, state: &State, by: TurnsLeft) -> Lookahead {
+    let mut class = policy.least();
+    while class != state.owner {
+        if !policy.flows(class, state.owner) {
+            return Lookahead::MeetsClassThatMayNotFlow;
+        }
+        let left = match by {
+            TurnsLeft::OfThisEpoch => state.classes[class].left,
+            TurnsLeft::AtTheCaps => policy.caps[class],
+        };
+        if left > 0 {
+            return Lookahead::MeetsClassWithTurnsLeft;
+        }
+        class = match named_cover(policy, class, moved_pointer(policy, state, class)) {
+            Some(cover) => cover,
+            // Not met: the owner lies above this class.
+            None => return Lookahead::MeetsClassThatMayNotFlow,
+        };
+    }
+    Lookahead::ReachesOwner
+}
+
+/// "The owner may activate at offsets below turn length less dead time; if the
+/// dead time is dropped, at all offsets."
+pub(crate) fn offset_allows(policy: &Policy, elided: bool, offset: u32) -> bool {
+    let timing = &policy.timing;
+    elided || offset + u32::from(timing.dead_time) < u32::from(timing.turn_length)
+}
+
+/// For [`Planted::Document000Elision`] only: "it is not used".
+fn document_000_elides(policy: &Policy, state: &State) -> bool {
+    !(0..policy.class_count())
+        .any(|class| policy.strictly_below(class, state.owner) && state.classes[class].left > 0)
+}

@@ -1,0 +1,790 @@
+//! Policies and traces made from a seed: the same seed gives the same bytes.
+
+use crate::policy::{self, Policy, LONGEST_EPOCH, MOST_CLASSES, TIMING_LENGTH};
+use crate::random::Random;
+use crate::state::{Request, QUEUE_LIMIT};
+use crate::trace::offer_word;
+
+/// The two files that the program reads.
+#[derive(Clone, Debug, PartialEq, Eq)]
+pub struct Folder {
+    pub policy: Vec<u8>,
+    pub trace: Vec<u8>,
+}
+
+/// A folder made from a seed. About one policy in four is damaged.
+pub fn folder(seed: u64) -> Folder {
+    let random = &mut Random::new(seed);
+    let policy = policy_file(random);
+    let trace = match policy::read(&policy) {
+        (policy, None) => trace_numbers(random, &policy),
+        // The program does not look at it; it must be there all the same.
+        (_, Some(_)) => (0..random.below(8)).map(|_| random.next() as u32).collect(),
+    };
+    let mut bytes: Vec<u8> = trace
+        .iter()
+        .flat_map(|number| number.to_le_bytes())
+        .collect();
+    let left_over = random.below(4);
+    bytes.extend((0..left_over).map(|_| random.next() as u8));
+    Folder {
+        policy,
+        trace: bytes,
+    }
+}
+
+fn policy_file(random: &mut Random) -> Vec<u8> {
+    match random.below(40) {
+        0..=8 => {
+            let place = random.below(DAMAGES.len());
+            (DAMAGES[place].file)(random)
+        }
+        9 => damaged_twice(random),
+        10 => flipped_bit(random),
+        _ => sound_fields(random).encode(),
+    }
+}
+
+// ---------------------------------------------------------------------------
+// Sound policies.
+
+/// The numbers of a policy file, before they are laid out as bytes. They may be
+/// wrong: so are damaged files made.
+#[derive(Clone, Debug, PartialEq, Eq)]
+pub struct PolicyFields {
+    /// The byte n, which need not be the number of rows.
+    pub n: u8,
+    pub rows: Vec<u16>,
+    pub epoch: u8,
+    pub minimums: Vec<u8>,
+    /// The timing body; ten bytes where it is sound.
+    pub timing: Vec<u8>,
+}
+
+impl PolicyFields {
+    /// Fields with as many classes as there are rows.
+    pub fn new(rows: &[u16], epoch: u8, minimums: &[u8], timing: [u8; TIMING_LENGTH]) -> Self {
+        PolicyFields {
+            n: rows.len() as u8,
+            rows: rows.to_vec(),
+            epoch,
+            minimums: minimums.to_vec(),
+            timing: timing.to_vec(),
+        }
+    }
+
+    /// The file: "a contents table, then the bodies", which abut.
+    pub fn encode(&self) -> Vec<u8> {
+        let mut order = vec![self.n];
+        order.extend(self.rows.iter().flat_map(|row| row.to_le_bytes()));
+        let mut turns = vec![self.epoch];
+        turns.extend_from_slice(&self.minimums);
+        encode_bodies(&order, &turns, &self.timing)
+    }
+}
+
+/// A file whose contents table fits its bodies, whatever those hold.
+pub fn encode_bodies(order: &[u8], turns: &[u8], timing: &[u8]) -> Vec<u8> {
+    let mut file = vec![3];
+    let mut start = 16u16;
+    for (kind, body) in [(1, order), (2, turns), (3, timing)] {
+        file.push(kind);
+        file.extend_from_slice(&start.to_le_bytes());
+        file.extend_from_slice(&(body.len() as u16).to_le_bytes());
+        start = start.wrapping_add(body.len() as u16);
+    }
+    for body in [order, turns, timing] {
+        file.extend_from_slice(body);
+    }
+    file
+}
+
+/// A policy that no number refuses.
+pub fn sound_fields(random: &mut Random) -> PolicyFields {
+    let n = random.between(1, MOST_CLASSES);
+    let rows = sound_rows(random, n);
+    let (epoch, minimums) = sound_turns(random, n);
+    PolicyFields::new(&rows, epoch, &minimums, sound_timing(random))
+}
+
+/// The rows of an order with a least class, of one of five shapes, with the
+/// class numbers permuted.
+pub(crate) fn sound_rows(random: &mut Random, n: usize) -> Vec<u16> {
+    // Place 0 is the least class, and a place may flow to later ones only.
+    let mut flows = vec![vec![false; n]; n];
+    let shape = random.below(5);
+    for upper in 0..n {
+        flows[upper][upper] = true;
+        flows[0][upper] = true;
+        match shape {
+            // A chain.
+            0 => (0..upper).for_each(|lower| flows[lower][upper] = true),
+            // An antichain over the least class.
+            1 => {}
+            // A diamond: an antichain between the least class and a greatest.
+            2 => {
+                if upper == n - 1 {
+                    (0..upper).for_each(|lower| flows[lower][upper] = true);
+                }
+            }
+            // A tree: one place directly below.
+            3 => {
+                let parent = random.below(upper.max(1));
+                (0..n).for_each(|lower| flows[lower][upper] |= flows[lower][parent]);
+            }
+            // Anything: some places below, and all that is below those.
+            _ => {
+                for middle in 1..upper {
+                    if random.percent(35) {
+                        (0..n).for_each(|lower| flows[lower][upper] |= flows[lower][middle]);
+                    }
+                }
+            }
+        }
+    }
+    let mut class_of: Vec<usize> = (0..n).collect();
+    random.shuffle(&mut class_of);
+    let mut rows = vec![0; n];
+    for (lower, row) in flows.iter().enumerate() {
+        for (upper, _) in row.iter().enumerate().filter(|(_, &flows)| flows) {
+            rows[class_of[lower]] |= 1 << class_of[upper];
+        }
+    }
+    rows
+}
+
+/// An epoch and minimums, often at their edges.
+fn sound_turns(random: &mut Random, n: usize) -> (u8, Vec<u8>) {
+    let longest = usize::from(LONGEST_EPOCH);
+    let epoch = match random.below(8) {
+        0 => 1,
+        1 => longest,
+        2..=5 => random.between(2, 6),
+        _ => random.between(1, longest),
+    };
+    let sum = match random.below(4) {
+        0 => 0,
+        1 => epoch,
+        2 => epoch - 1,
+        _ => random.below(epoch + 1),
+    };
+    let mut minimums = vec![0; n];
+    for _ in 0..sum {
+        minimums[random.below(n)] += 1;
+    }
+    (epoch as u8, minimums)
+}
+
+/// Timings, often at their extremes.
+pub(crate) fn sound_timing(random: &mut Random) -> [u8; TIMING_LENGTH] {
+    let dead = match random.below(6) {
+        0 => 2,
+        1 => 31,
+        2..=4 => random.between(2, 6),
+        _ => random.between(2, 31),
+    };
+    let turn = match random.below(8) {
+        0 | 1 => dead + 1,
+        2 => 255,
+        3..=6 => random.between(dead + 1, dead + 12),
+        _ => random.between(dead + 1, 255),
+    };
+    let response = edge_or_between(random, 2, dead);
+    let column = edge_or_between(random, 1, response - 1);
+    let mut gaps = [0; 6];
+    for gap in &mut gaps {
+        *gap = edge_or_between(random, 1, dead) as u8;
+    }
+    let [rr, rw, wr, ww, after_read, after_write] = gaps;
+    [
+        turn as u8,
+        dead as u8,
+        rr,
+        rw,
+        wr,
+        ww,
+        after_read,
+        after_write,
+        column as u8,
+        response as u8,
+    ]
+}
+
+fn edge_or_between(random: &mut Random, first: usize, last: usize) -> usize {
+    match random.below(3) {
+        0 => first,
+        1 => last,
+        _ => random.between(first, last),
+    }
+}
+
+// ---------------------------------------------------------------------------
+// Damaged policies.
+
+/// One way to damage a policy file.
+pub struct Damage {
+    pub name: &'static str,
+    /// The number that every file so damaged is refused with.
+    pub number: u32,
+    pub file: fn(&mut Random) -> Vec<u8>,
+}
+
+const fn damage(number: u32, name: &'static str, file: fn(&mut Random) -> Vec<u8>) -> Damage {
+    Damage { name, number, file }
+}
+
+/// Every way to damage a policy file on purpose, by the number it gets.
+pub const DAMAGES: [Damage; 61] = [
+    damage(1, "empty", |_| Vec::new()),
+    damage(1, "cut below 17 bytes", |random| cut_to(random, 1, 16)),
+    damage(1, "cut below its last byte", |random| {
+        let mut file = sound_file(random);
+        let length = random.between(17, file.len() - 1);
+        file.truncate(length);
+        file
+    }),
+    damage(1, "bytes past the last body", |random| {
+        let mut file = sound_file(random);
+        file.extend(vec![0; random.between(1, 3)]);
+        file
+    }),
+    damage(1, "above 65,535 bytes", |random| {
+        let past = random.below(4);
+        padded_to(random, policy::LONGEST_FILE + 1 + past)
+    }),
+    damage(1, "byte 0 not 3", |random| other_byte(random, 0)),
+    damage(1, "first kind", |random| other_byte(random, 1)),
+    damage(1, "second kind", |random| other_byte(random, 6)),
+    damage(1, "third kind", |random| other_byte(random, 11)),
+    damage(1, "first start, low byte", |random| other_byte(random, 2)),
+    damage(1, "first start, high byte", |random| other_byte(random, 3)),
+    damage(1, "first length, low byte", |random| other_byte(random, 4)),
+    damage(1, "first length, high byte", |random| other_byte(random, 5)),
+    damage(1, "second start, low byte", |random| other_byte(random, 7)),
+    damage(1, "second start, high byte", |random| other_byte(random, 8)),
+    damage(1, "second length, low byte", |random| other_byte(random, 9)),
+    damage(1, "second length, high byte", |random| {
+        other_byte(random, 10)
+    }),
+    damage(1, "third start, low byte", |random| other_byte(random, 12)),
+    damage(1, "third start, high byte", |random| other_byte(random, 13)),
+    damage(1, "third length, low byte", |random| other_byte(random, 14)),
+    damage(1, "third length, high byte", |random| {
+        other_byte(random, 15)
+    }),
+    damage(1, "two entries swapped", |random| {
+        let mut file = sound_file(random);
+        let (left, right) = *random.pick(&[(1, 6), (6, 11), (1, 11)]);
+        (0..5).for_each(|place| file.swap(left + place, right + place));
+        file
+    }),
+    damage(1, "a byte between the contents and the bodies", |random| {
+        apart(random, 0)
+    }),
+    damage(1, "a byte between the first two bodies", |random| {
+        apart(random, 1)
+    }),
+    damage(1, "a byte between the last two bodies", |random| {
+        apart(random, 2)
+    }),
+    damage(1, "a start past 16 bits", |random| {
+        // A first length of 65,535 leads to byte 65,551, which is 15 in 16 bits.
+        let mut file = sound_file(random);
+        file[4..6].copy_from_slice(&[0xFF, 0xFF]);
+        file[7..9].copy_from_slice(&[15, 0]);
+        file
+    }),
+    damage(1, "any bytes", |random| {
+        let length = random.between(17, 90);
+        let mut file: Vec<u8> = (0..length).map(|_| random.next() as u8).collect();
+        // No kind is 0, so chance cannot make the contents table right.
+        file[1] = 0;
+        file
+    }),
+    damage(2, "n = 0", |random| {
+        with_fields(random, |_, fields| fields.n = 0)
+    }),
+    damage(2, "n = 17", |random| {
+        with_fields(random, |_, fields| fields.n = 17)
+    }),
+    damage(2, "n far above 16", |random| {
+        with_fields(random, |random, fields| {
+            fields.n = random.between(18, 255) as u8
+        })
+    }),
+    damage(2, "n = 0 with lengths to fit", |random| {
+        with_fields(random, |_, fields| {
+            fields.n = 0;
+            fields.rows.clear();
+            fields.minimums.clear();
+        })
+    }),
+    damage(2, "n = 17 with lengths to fit", |random| {
+        with_fields(random, |_, fields| {
+            fields.n = 17;
+            fields.rows.resize(17, 0xFFFF);
+            fields.minimums.resize(17, 0);
+        })
+    }),
+    damage(2, "n one beside the rows", |random| {
+        with_fields(random, |random, fields| {
+            fields.n = if fields.n == 1 || (fields.n < 16 && random.percent(50)) {
+                fields.n + 1
+            } else {
+                fields.n - 1
+            }
+        })
+    }),
+    damage(2, "a row more", |random| {
+        with_fields(random, |_, fields| fields.rows.push(0))
+    }),
+    damage(2, "a row less", |random| {
+        with_fields(random, |_, fields| {
+            fields.rows.truncate(fields.rows.len() - 1)
+        })
+    }),
+    damage(2, "half a row", |random| {
+        let fields = sound_fields(random);
+        let mut order = vec![fields.n];
+        order.extend(fields.rows.iter().flat_map(|row| row.to_le_bytes()));
+        if random.percent(50) {
+            order.push(0);
+        } else {
+            order.truncate(order.len() - 1);
+        }
+        let turns = [&[fields.epoch], fields.minimums.as_slice()].concat();
+        encode_bodies(&order, &turns, &fields.timing)
+    }),
+    damage(2, "no order body", |random| {
+        let fields = sound_fields(random);
+        let turns = [&[fields.epoch], fields.minimums.as_slice()].concat();
+        encode_bodies(&[], &turns, &fields.timing)
+    }),
+    damage(2, "n and nothing else", |random| {
+        let n = random.next() as u8;
+        encode_bodies(&[n], &[], &[])
+    }),
+    damage(2, "a minimum more", |random| {
+        with_fields(random, |_, fields| fields.minimums.push(0))
+    }),
+    damage(2, "a minimum less", |random| {
+        with_fields(random, |_, fields| {
+            fields.minimums.truncate(fields.minimums.len() - 1)
+        })
+    }),
+    damage(2, "no turns body", |random| {
+        let fields = sound_fields(random);
+        let mut order = vec![fields.n];
+        order.extend(fields.rows.iter().flat_map(|row| row.to_le_bytes()));
+        encode_bodies(&order, &[], &fields.timing)
+    }),
+    damage(2, "a timing byte more", |random| {
+        with_fields(random, |_, fields| fields.timing.push(2))
+    }),
+    damage(2, "a timing byte less", |random| {
+        with_fields(random, |_, fields| fields.timing.truncate(9))
+    }),
+    damage(2, "no timing body", |random| {
+        with_fields(random, |_, fields| fields.timing.clear())
+    }),
+    damage(2, "65,535 bytes", |random| {
+        padded_to(random, policy::LONGEST_FILE)
+    }),
+    damage(3, "a bit at n or above", |random| {
+        let n = random.between(1, MOST_CLASSES - 1);
+        with_rows(random, n, |random, rows| {
+            let class = random.below(n);
+            rows[class] |= 1 << random.between(n, MOST_CLASSES - 1);
+        })
+    }),
+    damage(3, "a row lacks its own bit", |random| {
+        let n = random.between(1, MOST_CLASSES);
+        with_rows(random, n, |random, rows| {
+            let class = random.below(n);
+            rows[class] &= !(1 << class);
+        })
+    }),
+    damage(4, "two classes flow to each other", |random| {
+        let n = random.between(2, MOST_CLASSES);
+        with_rows(random, n, |random, rows| {
+            let lower = random.below(n);
+            let upper = (lower + random.between(1, n - 1)) % n;
+            rows[lower] |= 1 << upper;
+            rows[upper] |= 1 << lower;
+        })
+    }),
+    damage(5, "a chain that lacks a flow", |random| {
+        let n = random.between(3, MOST_CLASSES);
+        with_rows(random, n, |random, rows| {
+            let mut class_of: Vec<usize> = (0..n).collect();
+            random.shuffle(&mut class_of);
+            for (place, &class) in class_of.iter().enumerate() {
+                rows[class] = class_of[place..].iter().map(|&upper| 1 << upper).sum();
+            }
+            let lower = random.below(n - 2);
+            let upper = random.between(lower + 2, n - 1);
+            rows[class_of[lower]] &= !(1 << class_of[upper]);
+        })
+    }),
+    damage(6, "no two classes flow", |random| {
+        let n = random.between(2, MOST_CLASSES);
+        with_rows(random, n, |_, rows| {
+            (0..n).for_each(|class| rows[class] = 1 << class);
+        })
+    }),
+    damage(6, "two chains side by side", |random| {
+        let n = random.between(2, MOST_CLASSES);
+        with_rows(random, n, |_, rows| {
+            for class in 0..n {
+                let above = (class..n).step_by(2);
+                rows[class] = above.map(|upper| 1 << upper).sum();
+            }
+        })
+    }),
+    damage(7, "E = 0", |random| {
+        with_fields(random, |_, fields| {
+            fields.epoch = 0;
+            fields.minimums.fill(0);
+        })
+    }),
+    damage(7, "E above 64", |random| {
+        with_fields(random, |random, fields| {
+            fields.epoch = *random.pick(&[65, 66, 128, 255]);
+        })
+    }),
+    damage(7, "a sum of E + 1", |random| {
+        with_fields(random, |random, fields| {
+            let sum: u8 = fields.minimums.iter().sum();
+            let class = random.below(fields.minimums.len());
+            fields.minimums[class] += fields.epoch - sum + 1;
+        })
+    }),
+    damage(7, "a sum past one byte", |random| {
+        with_fields(random, |_, fields| {
+            fields.minimums.fill(0);
+            if let [first, second, ..] = fields.minimums.as_mut_slice() {
+                (*first, *second) = (128, 128);
+            } else {
+                fields.minimums.fill(255);
+            }
+        })
+    }),
+    damage(8, "turn length", |random| {
+        with_fields(random, |random, fields| {
+            fields.timing[0] = *random.pick(&[0, 1, fields.timing[1], 2]);
+        })
+    }),
+    damage(8, "dead time too short", |random| {
+        with_fields(random, |random, fields| {
+            fields.timing[1] = random.below(2) as u8;
+        })
+    }),
+    damage(8, "dead time too long", |random| {
+        with_fields(random, |random, fields| {
+            fields.timing[0] = 255;
+            fields.timing[1] = *random.pick(&[32, 33, 254]);
+        })
+    }),
+    damage(8, "a gap", |random| {
+        with_fields(random, |random, fields| {
+            let place = random.between(2, 7);
+            fields.timing[place] = *random.pick(&[0, fields.timing[1] + 1, 255]);
+        })
+    }),
+    damage(8, "answer delay", |random| {
+        with_fields(random, |random, fields| {
+            fields.timing[9] = *random.pick(&[0, 1, fields.timing[1] + 1, 255]);
+        })
+    }),
+    damage(8, "column delay", |random| {
+        with_fields(random, |random, fields| {
+            fields.timing[8] = *random.pick(&[0, fields.timing[9], fields.timing[9] + 1, 255]);
+        })
+    }),
+];
+
+fn sound_file(random: &mut Random) -> Vec<u8> {
+    sound_fields(random).encode()
+}
+
+fn with_fields(random: &mut Random, change: fn(&mut Random, &mut PolicyFields)) -> Vec<u8> {
+    let mut fields = sound_fields(random);
+    change(random, &mut fields);
+    fields.encode()
+}
+
+/// A file of n classes whose rows are changed; all else is sound.
+fn with_rows(
+    random: &mut Random,
+    n: usize,
+    change: impl Fn(&mut Random, &mut Vec<u16>),
+) -> Vec<u8> {
+    let mut rows = sound_rows(random, n);
+    change(random, &mut rows);
+    let (epoch, minimums) = sound_turns(random, n);
+    PolicyFields::new(&rows, epoch, &minimums, sound_timing(random)).encode()
+}
+
+fn cut_to(random: &mut Random, shortest: usize, longest: usize) -> Vec<u8> {
+    let mut file = sound_file(random);
+    file.truncate(random.between(shortest, longest));
+    file
+}
+
+/// A sound file with one byte replaced by another value.
+fn other_byte(random: &mut Random, place: usize) -> Vec<u8> {
+    let mut file = sound_file(random);
+    let change = match random.below(3) {
+        0 => 1,
+        1 => 255,
+        _ => random.between(1, 255) as u8,
+    };
+    file[place] = file[place].wrapping_add(change);
+    file
+}
+
+/// A sound file with a byte put in before a body, counted from 0. The starts
+/// from that body on are moved along, so that only the gap is wrong.
+fn apart(random: &mut Random, body: usize) -> Vec<u8> {
+    let mut file = sound_file(random);
+    // The low byte of a body's start; the high byte of a sound file's is 0.
+    let start_of = |body: usize| 2 + 5 * body;
+    file.insert(usize::from(file[start_of(body)]), 0);
+    (body..3).for_each(|later| file[start_of(later)] += 1);
+    file
+}
+
+/// A file of a given length whose last body is too long, as its length says.
+fn padded_to(random: &mut Random, length: usize) -> Vec<u8> {
+    let mut file = sound_file(random);
+    let last_start = file.len() - TIMING_LENGTH;
+    file.resize(length, 0);
+    file[14..16].copy_from_slice(&((length - last_start) as u16).to_le_bytes());
+    file
+}
+
+/// A file that several numbers could refuse: the lowest must.
+fn damaged_twice(random: &mut Random) -> Vec<u8> {
+    let mut fields = sound_fields(random);
+    let n = fields.rows.len();
+    for _ in 0..random.between(2, 4) {
+        let class = random.below(n);
+        match random.below(7) {
+            0 => fields.n = fields.n.wrapping_add(1),
+            1 => fields.rows[class] &= !(1 << class),
+            2 => fields.rows[class] = ((1u32 << n) - 1) as u16,
+            3 => fields.rows[class] = 1 << class,
+            4 => fields.epoch = 0,
+            5 => fields.minimums[class] = 65,
+            _ => fields.timing[random.below(TIMING_LENGTH)] = 0,
+        }
+    }
+    let mut file = fields.encode();
+    if random.percent(20) {
+        file.push(0);
+    }
+    file
+}
+
+fn flipped_bit(random: &mut Random) -> Vec<u8> {
+    let mut file = sound_file(random);
+    let place = random.below(file.len());
+    file[place] ^= 1 << random.below(8);
+    file
+}
+
+// ---------------------------------------------------------------------------
+// Traces.
+
+/// A trace for a policy: mostly some hundreds of numbers, at times thousands.
+fn trace_numbers(random: &mut Random, policy: &Policy) -> Vec<u32> {
+    let length = match random.below(100) {
+        0 => random.between(2_000, 5_000),
+        1..=9 => random.between(400, 800),
+        10 => 0,
+        _ => random.between(1, 400),
+    };
+    let mut writer = TraceWriter {
+        random,
+        policy,
+        numbers: Vec::new(),
+        cycle: 0,
+        banks: 8,
+    };
+    while writer.numbers.len() < length {
+        writer.stretch();
+    }
+    writer.numbers
+}
+
+/// Writes a trace, stretch by stretch, and counts its ticks.
+struct TraceWriter<'a> {
+    random: &'a mut Random,
+    policy: &'a Policy,
+    numbers: Vec<u32>,
+    cycle: usize,
+    /// Offers use banks below this; few banks make same-bank gaps bite.
+    banks: usize,
+}
+
+impl TraceWriter<'_> {
+    fn stretch(&mut self) {
+        self.banks = *self.random.pick(&[1, 2, 8]);
+        match self.random.below(9) {
+            0 => self.burst(),
+            1 => self.idle(),
+            2 | 3 => self.mixed(),
+            4 | 5 => self.around_turn_start(),
+            6 => self.full_queue(),
+            7 => self.all_waiting(),
+            _ => self.noise(),
+        }
+    }
+
+    fn turn_length(&self) -> usize {
+        usize::from(self.policy.timing.turn_length)
+    }
+
+    fn any_class(&mut self) -> u8 {
+        self.random.below(self.policy.class_count()) as u8
+    }
+
+    fn ticks(&mut self, count: usize) {
+        self.numbers.extend(vec![0; count]);
+        self.cycle += count;
+    }
+
+    fn offer(&mut self, class: u8) {
+        self.numbers
+            .push(sound_offer(self.random, class, self.banks));
+    }
+
+    /// Several offers of one class, then some ticks.
+    fn burst(&mut self) {
+        let class = self.any_class();
+        for _ in 0..self.random.between(2, 6) {
+            self.offer(class);
+        }
+        let count = self.random.below(12);
+        self.ticks(count);
+    }
+
+    /// Nobody asks for up to two turns.
+    fn idle(&mut self) {
+        let longest = (2 * self.turn_length()).min(120);
+        let count = self.random.between(1, longest);
+        self.ticks(count);
+    }
+
+    /// Offers of any class among ticks.
+    fn mixed(&mut self) {
+        for _ in 0..self.random.between(5, 30) {
+            if self.random.percent(30) {
+                let class = self.any_class();
+                self.offer(class);
+            } else {
+                self.ticks(1);
+            }
+        }
+    }
+
+    /// Offers just before a turn starts and just after.
+    fn around_turn_start(&mut self) {
+        let left = self.turn_length() - self.cycle % self.turn_length();
+        // Not every stretch can wait for the end of a long turn.
+        if left > 64 && self.random.percent(70) {
+            return self.mixed();
+        }
+        self.ticks(left - 1);
+        for _ in 0..self.random.below(3) {
+            let class = self.any_class();
+            self.offer(class);
+        }
+        self.ticks(1);
+        for _ in 0..self.random.below(3) {
+            let class = self.any_class();
+            self.offer(class);
+        }
+        self.ticks(1);
+        for _ in 0..self.random.between(1, 3) {
+            let class = self.any_class();
+            self.offer(class);
+        }
+    }
+
+    /// More offers of one class than its queue holds.
+    fn full_queue(&mut self) {
+        let class = self.any_class();
+        for _ in 0..QUEUE_LIMIT + self.random.below(3) {
+            self.offer(class);
+        }
+        let count = self.random.below(6);
+        self.ticks(count);
+    }
+
+    /// Every class asks, and then some turns go by.
+    fn all_waiting(&mut self) {
+        for class in 0..self.policy.class_count() as u8 {
+            for _ in 0..self.random.between(1, 3) {
+                self.offer(class);
+            }
+        }
+        let longest = (4 * self.turn_length()).min(160);
+        let count = self.random.between(1, longest);
+        self.ticks(count);
+    }
+
+    /// Malformed words and offers that 9 or 10 refuses.
+    fn noise(&mut self) {
+        for _ in 0..self.random.between(1, 4) {
+            let class = self.any_class();
+            let number = noise_word(self.random, self.policy, class);
+            self.numbers.push(number);
+            let count = self.random.below(3);
+            self.ticks(count);
+        }
+    }
+}
+
+/// An offer with a bank below a bound, of either kind, with any tag.
+pub(crate) fn sound_offer(random: &mut Random, class: u8, banks: usize) -> u32 {
+    offer_word(&Request {
+        class,
+        kind: random.below(2) as u8,
+        bank: random.below(banks) as u8,
+        tag: random.next() as u16,
+    })
+}
+
+/// A number that gives 9, 10 or 14. The class is that of offers which are
+/// refused for bank or kind alone.
+fn noise_word(random: &mut Random, policy: &Policy, class: u8) -> u32 {
+    match random.below(3) {
+        0 => missing_class_word(random, policy),
+        1 => refused_offer(random, class),
+        _ => malformed_word(random),
+    }
+}
+
+/// An offer of a class that does not exist, with bank and kind sound or not.
+pub(crate) fn missing_class_word(random: &mut Random, policy: &Policy) -> u32 {
+    let class = random.between(policy.class_count(), 31) as u8;
+    sound_offer(random, class, 8) | *random.pick(&[0, 8 << 16, 2 << 20])
+}
+
+/// An offer of a bank above 7, of a kind above 1, or of both.
+pub(crate) fn refused_offer(random: &mut Random, class: u8) -> u32 {
+    sound_offer(random, class, 8) | *random.pick(&[8 << 16, 2 << 20, 8 << 16 | 2 << 20])
+}
+
+/// A number of neither form: an offer with a bit set that must be 0, or a
+/// number other than 0 without bit 31.
+pub(crate) fn malformed_word(random: &mut Random) -> u32 {
+    let any = random.next() as u32;
+    match random.below(4) {
+        0 => 1,
+        1 => 1 << random.below(31),
+        2 => any | 1 << 31 | 1 << *random.pick(&[22, 23, 29, 30]),
+        _ => any >> 1 | 1,
+    }
+}

@@ -1,0 +1,39 @@
+//! A model of the lattice priority controller, cycle by cycle.
+//!
+//! Every rule stands in the module named after its place in document 01:
+//!
+//! | Document 01                        | Module                  |
+//! |------------------------------------|-------------------------|
+//! | The policy file                    | [`policy`]              |
+//! | A tick: fresh states, range checks | [`state`]               |
+//! | A tick: ticks and offers           | [`tick`]                |
+//! | The walk                           | [`walk`]                |
+//! | Dead time                          | [`dead_time`]           |
+//! | Trace and log                      | [`trace`]               |
+//! | The extract                        | [`extract`]             |
+//! | Two lists side by side             | [`leaks`]               |
+//! | The program                        | [`program`]             |
+//! | What is turned down                | [`refusal`]             |
+//!
+//! [`generate`] makes policies and traces from a seed, [`coverage`] counts
+//! what they exercise, [`random`] is the source of chance of both, and
+//! [`planted`] holds the wrong rules that the search for leaks must find.
+//!
+//! The text in quotation marks above a rule is document 01's own.
+
+#![forbid(unsafe_code)]
+
+pub mod coverage;
+pub mod dead_time;
+pub mod extract;
+pub mod generate;
+pub mod leaks;
+pub mod planted;
+pub mod policy;
+pub mod program;
+pub mod random;
+pub mod refusal;
+pub mod state;
+pub mod tick;
+pub mod trace;
+pub mod walk;

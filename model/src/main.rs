@@ -1,0 +1,144 @@
+//! The command line.
+
+use std::ffi::OsString;
+use std::fs;
+use std::io::{self, BufWriter, ErrorKind, Write};
+use std::path::{Path, PathBuf};
+use std::process::ExitCode;
+
+use vigambul_model::{generate, leaks, program};
+
+const USAGE: &str = "\
+A model of the lattice priority controller, cycle by cycle.
+
+usage:
+  vigambul-model run DIR          print the log of DIR/trace.bin under DIR/policy.bin
+  vigambul-model extract L DIR    print the extract of that log for class L
+  vigambul-model generate SEED DIR
+                                  write a policy.bin and a trace.bin made from SEED into DIR
+  vigambul-model leaks COUNT      search COUNT pairs of lists for leaks
+  vigambul-model --help           print this text
+
+A missing file is read as empty. The exit status is 0 if the command did its
+work (a refusal that is printed is part of it), 1 if a file cannot be read or
+written or a leak is found, and 2 if the arguments are wrong.
+";
+
+/// What the arguments ask for.
+enum Command {
+    Help,
+    Run { dir: PathBuf },
+    Extract { class: usize, dir: PathBuf },
+    Generate { seed: u64, dir: PathBuf },
+    Leaks { count: u64 },
+}
+
+fn main() -> ExitCode {
+    let arguments: Vec<OsString> = std::env::args_os().skip(1).collect();
+    let command = match parse(&arguments) {
+        Ok(command) => command,
+        Err(message) => {
+            eprint!("vigambul-model: {message}\n\n{USAGE}");
+            return ExitCode::from(2);
+        }
+    };
+    match perform(command) {
+        Ok(code) => code,
+        Err(message) => {
+            eprintln!("vigambul-model: {message}");
+            ExitCode::FAILURE
+        }
+    }
+}
+
+fn parse(arguments: &[OsString]) -> Result<Command, String> {
+    // The name of a folder need not be text; commands and numbers are.
+    let words: Vec<&str> = arguments
+        .iter()
+        .map(|argument| argument.to_str().unwrap_or("(not text)"))
+        .collect();
+    let dir = || arguments.last().map(PathBuf::from).unwrap_or_default();
+    match words.as_slice() {
+        ["--help" | "-h"] => Ok(Command::Help),
+        ["run", _] => Ok(Command::Run { dir: dir() }),
+        ["extract", class, _] => Ok(Command::Extract {
+            class: number("the class L", class)?,
+            dir: dir(),
+        }),
+        ["generate", seed, _] => Ok(Command::Generate {
+            seed: number("SEED", seed)?,
+            dir: dir(),
+        }),
+        ["leaks", count] => match number("COUNT", count)? {
+            0 => Err("COUNT must be at least 1: a search of no pairs shows nothing".to_string()),
+            count => Ok(Command::Leaks { count }),
+        },
+        [] => Err("a command is missing".to_string()),
+        ["run" | "extract" | "generate" | "leaks", ..] => {
+            Err(format!("wrong number of arguments for {}", words[0]))
+        }
+        [other, ..] => Err(format!("unknown command {other}")),
+    }
+}
+
+fn number<T: std::str::FromStr>(what: &str, text: &str) -> Result<T, String> {
+    text.parse()
+        .map_err(|_| format!("{what} must be a whole number, not {text}"))
+}
+
+fn perform(command: Command) -> Result<ExitCode, String> {
+    match command {
+        Command::Help => print(USAGE.as_bytes()),
+        Command::Run { dir } => {
+            let (policy, trace) = read_folder(&dir)?;
+            print(&program::output(&policy, &trace))
+        }
+        Command::Extract { class, dir } => {
+            let (policy, trace) = read_folder(&dir)?;
+            print(&program::extract_output(class, &policy, &trace))
+        }
+        Command::Generate { seed, dir } => {
+            let folder = generate::folder(seed);
+            fs::create_dir_all(&dir)
+                .map_err(|error| format!("cannot create {}: {error}", dir.display()))?;
+            write(&dir, "policy.bin", &folder.policy)?;
+            write(&dir, "trace.bin", &folder.trace)?;
+            Ok(ExitCode::SUCCESS)
+        }
+        Command::Leaks { count } => {
+            let search = leaks::search(count);
+            print(search.report().as_bytes())?;
+            Ok(match search.leak {
+                None => ExitCode::SUCCESS,
+                Some(_) => ExitCode::FAILURE,
+            })
+        }
+    }
+}
+
+fn read_folder(dir: &Path) -> Result<(Vec<u8>, Vec<u8>), String> {
+    Ok((read(dir, "policy.bin")?, read(dir, "trace.bin")?))
+}
+
+/// "A missing file is read as empty." Any other trouble is not passed over.
+fn read(dir: &Path, name: &str) -> Result<Vec<u8>, String> {
+    let path = dir.join(name);
+    match fs::read(&path) {
+        Ok(bytes) => Ok(bytes),
+        Err(error) if error.kind() == ErrorKind::NotFound => Ok(Vec::new()),
+        Err(error) => Err(format!("cannot read {}: {error}", path.display())),
+    }
+}
+
+fn write(dir: &Path, name: &str, bytes: &[u8]) -> Result<(), String> {
+    let path = dir.join(name);
+    fs::write(&path, bytes).map_err(|error| format!("cannot write {}: {error}", path.display()))
+}
+
+fn print(text: &[u8]) -> Result<ExitCode, String> {
+    let mut out = BufWriter::new(io::stdout().lock());
+    out.write_all(text)
+        .and_then(|()| out.flush())
+        .map_err(|error| format!("cannot write the output: {error}"))?;
+    Ok(ExitCode::SUCCESS)
+}

@@ -1,0 +1,75 @@
+//! "The walk": who owns a turn. The standard word for it is a lattice traversal.
+
+use crate::planted::Planted;
+use crate::policy::Policy;
+use crate::state::State;
+
+/// "The walk picks the owner." It moves the pointers of the classes it reaches
+/// and takes one of the owner's turns left.
+pub(crate) fn walk(policy: &Policy, state: &mut State, planted: Planted) -> usize {
+    // "It tries the least class first."
+    let owner = try_class(policy, state, policy.least(), planted);
+    // "The owner's turns left fall by 1, not below 0."
+    let left = &mut state.classes[owner].left;
+    *left = left.saturating_sub(1);
+    owner
+}
+
+/// Document 01: a class is tried. Each try is strictly above the one before, so
+/// there are at most as many as there are classes.
+fn try_class(policy: &Policy, state: &mut State, class: usize, planted: Planted) -> usize {
+    // "A class that is reached moves its mark on by 1": the class that takes
+    // the turn is reached as well.
+    state.classes[class].pointer = moved_pointer(policy, state, class);
+    // Not a rule: a leak that tests plant.
+    if planted == Planted::HigherAskedFirst {
+        let asked = named_cover(policy, class, state.classes[class].pointer);
+        if asked.is_some_and(|higher| waits_with_turns_left(state, higher)) {
+            return ascend(policy, state, class, planted);
+        }
+    }
+    // "The class takes the turn if it has a request waiting and turns left, or
+    // if nothing is above it."
+    if waits_with_turns_left(state, class) || policy.covers_of(class).is_empty() {
+        class
+    } else {
+        ascend(policy, state, class, planted)
+    }
+}
+
+/// "If not, the turn ascends to the child that its mark names, and that child
+/// is tried in the same way."
+fn ascend(policy: &Policy, state: &mut State, class: usize, planted: Planted) -> usize {
+    match named_cover(policy, class, state.classes[class].pointer) {
+        Some(cover) => try_class(policy, state, cover, planted),
+        // Not met: a class with a cover has just moved its pointer to one.
+        None => class,
+    }
+}
+
+/// "it has a request waiting and turns left"
+pub(crate) fn waits_with_turns_left(state: &State, class: usize) -> bool {
+    let own = &state.classes[class];
+    !own.queue.is_empty() && own.left > 0
+}
+
+/// The pointer of a class once it is moved "on by 1, from the number of its
+/// children back to 1; marks start at 0, and a class without children has
+/// none": there it stays 0.
+pub(crate) fn moved_pointer(policy: &Policy, state: &State, class: usize) -> usize {
+    let covers = policy.covers_of(class).len();
+    let pointer = state.classes[class].pointer;
+    if covers == 0 {
+        0
+    } else if pointer >= covers {
+        1
+    } else {
+        pointer + 1
+    }
+}
+
+/// The cover of a class that a pointer names; they are "numbered from 1".
+pub(crate) fn named_cover(policy: &Policy, class: usize, pointer: usize) -> Option<usize> {
+    let place = pointer.checked_sub(1)?;
+    policy.covers_of(class).get(place).copied()
+}

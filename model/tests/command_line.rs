@@ -1,0 +1,259 @@
+//! The command line itself: what the binary prints, and its exit status.
+
+mod common;
+
+use std::fs;
+use std::path::{Path, PathBuf};
+use std::process::{Command, Output};
+
+use common::*;
+use vigambul_model::{generate, program};
+
+/// A folder of its own for one test, gone when the test is over.
+struct Folder(PathBuf);
+
+impl Folder {
+    fn new(name: &str) -> Folder {
+        let path =
+            std::env::temp_dir().join(format!("vigambul-model-{}-{name}", std::process::id()));
+        fs::create_dir_all(&path).expect("a folder for the test");
+        Folder(path)
+    }
+
+    fn with(self, name: &str, bytes: &[u8]) -> Folder {
+        fs::write(self.0.join(name), bytes).expect("a file for the test");
+        self
+    }
+
+    fn path(&self) -> &Path {
+        &self.0
+    }
+}
+
+impl Drop for Folder {
+    fn drop(&mut self) {
+        let _ = fs::remove_dir_all(&self.0);
+    }
+}
+
+fn call(arguments: &[&str], folder: Option<&Path>) -> Output {
+    Command::new(env!("CARGO_BIN_EXE_vigambul-model"))
+        .args(arguments)
+        .args(folder)
+        .output()
+        .expect("the binary runs")
+}
+
+fn text(bytes: &[u8]) -> String {
+    String::from_utf8_lossy(bytes).into_owned()
+}
+
+/// What a call prints that must succeed and say nothing on standard error.
+fn printed(arguments: &[&str], folder: &Folder) -> String {
+    let output = call(arguments, Some(folder.path()));
+    assert_eq!(output.status.code(), Some(0));
+    assert_eq!(text(&output.stderr), "");
+    text(&output.stdout)
+}
+
+fn trace_bytes(numbers: &[u32]) -> Vec<u8> {
+    numbers
+        .iter()
+        .flat_map(|number| number.to_le_bytes())
+        .collect()
+}
+
+const PRINTED_TRACE: [u32; 4] = [0x8001_0007, 0, 0, 0];
+const PRINTED_LOG: &str = "\
+status command answer turn
+00000000 00000000 00000000 00000000
+00000000 80010007 00000000 00000101
+00000000 C0010007 00000000 00000000
+00000000 00000000 80010007 00000000
+";
+
+#[test]
+fn run_prints_document_01s_log() {
+    let folder = Folder::new("log")
+        .with("policy.bin", &PRINTED_POLICY)
+        .with("trace.bin", &trace_bytes(&PRINTED_TRACE));
+    assert_eq!(printed(&["run"], &folder), PRINTED_LOG);
+}
+
+#[test]
+fn a_missing_policy_file_is_read_as_empty() {
+    let folder = Folder::new("no-policy").with("trace.bin", &trace_bytes(&PRINTED_TRACE));
+    assert_eq!(printed(&["run"], &folder), "policy refused 1\n");
+    assert_eq!(printed(&["extract", "0"], &folder), "policy refused 1\n");
+}
+
+#[test]
+fn a_missing_trace_file_is_read_as_empty() {
+    let folder = Folder::new("no-trace").with("policy.bin", &PRINTED_POLICY);
+    assert_eq!(printed(&["run"], &folder), "status command answer turn\n");
+}
+
+#[test]
+fn a_missing_folder_is_read_as_two_empty_files() {
+    let folder = Folder::new("no-folder");
+    let missing = folder.path().join("missing");
+    let output = call(&["run"], Some(&missing));
+    assert_eq!(text(&output.stdout), "policy refused 1\n");
+}
+
+#[test]
+fn a_refused_policy_prints_only_its_number() {
+    let mut file = PRINTED_POLICY;
+    file[21] = 0; // E
+                  // Left-over bytes add no line to it.
+    let folder = Folder::new("refused")
+        .with("policy.bin", &file)
+        .with("trace.bin", &[0, 0, 0, 0, 0]);
+    assert_eq!(printed(&["run"], &folder), "policy refused 7\n");
+}
+
+#[test]
+fn left_over_bytes_add_a_line() {
+    for left_over in 0..4 {
+        let mut trace = trace_bytes(&PRINTED_TRACE);
+        trace.extend(vec![0xFF; left_over]);
+        let folder = Folder::new(&format!("left-over-{left_over}"))
+            .with("policy.bin", &PRINTED_POLICY)
+            .with("trace.bin", &trace);
+        let line = match left_over {
+            0 => "",
+            _ => "trace ends inside a word\n",
+        };
+        assert_eq!(printed(&["run"], &folder), format!("{PRINTED_LOG}{line}"));
+    }
+    let folder = Folder::new("left-over-only")
+        .with("policy.bin", &PRINTED_POLICY)
+        .with("trace.bin", &[0]);
+    assert_eq!(
+        printed(&["run"], &folder),
+        "status command answer turn\ntrace ends inside a word\n"
+    );
+}
+
+#[test]
+fn statuses_are_printed_in_hexadecimal() {
+    let folder = Folder::new("statuses")
+        .with("policy.bin", &PRINTED_POLICY)
+        .with("trace.bin", &trace_bytes(&[1, 0x8008_0000]));
+    assert_eq!(
+        printed(&["run"], &folder),
+        "status command answer turn\n\
+         0000000E 00000000 00000000 00000000\n\
+         0000000A 00000000 00000000 00000000\n"
+    );
+}
+
+#[test]
+fn extract_prints_what_a_class_sees() {
+    let folder = Folder::new("extract")
+        .with("policy.bin", &PRINTED_POLICY)
+        .with("trace.bin", &trace_bytes(&[read_word(1, 7), 1, 0, 0]));
+    assert_eq!(
+        printed(&["extract", "0"], &folder),
+        "status command answer turn\n\
+         00000000 00000000 00000000 00000200\n\
+         00000000 00000000 00000000 00000000\n"
+    );
+    assert_eq!(
+        printed(&["extract", "1"], &folder),
+        "status command answer turn\n\
+         00000000 00000000 00000000 00000000\n\
+         00000000 81000007 00000000 00000002\n\
+         00000000 C1000007 00000000 00000000\n"
+    );
+    assert_eq!(printed(&["extract", "2"], &folder), "extract refused 9\n");
+}
+
+#[test]
+fn generate_writes_the_bytes_of_its_seed() {
+    let folder = Folder::new("generate");
+    let inner = folder.path().join("a").join("b");
+    let output = call(&["generate", "12345"], Some(&inner));
+    assert_eq!(output.status.code(), Some(0));
+    assert_eq!(text(&output.stdout), "");
+    let expected = generate::folder(12345);
+    assert_eq!(fs::read(inner.join("policy.bin")).unwrap(), expected.policy);
+    assert_eq!(fs::read(inner.join("trace.bin")).unwrap(), expected.trace);
+    let output = call(&["run"], Some(&inner));
+    assert_eq!(
+        output.stdout,
+        program::output(&expected.policy, &expected.trace)
+    );
+}
+
+#[test]
+fn leaks_reports_what_it_covered() {
+    let output = call(&["leaks", "50"], None);
+    assert_eq!(output.status.code(), Some(0));
+    let report = text(&output.stdout);
+    assert!(report.starts_with("pairs compared: 50\n"), "{report}");
+    assert!(report.ends_with("no leak found\n"), "{report}");
+}
+
+#[test]
+fn a_file_that_cannot_be_read_is_an_error() {
+    let folder = Folder::new("unreadable").with("policy.bin", &PRINTED_POLICY);
+    fs::create_dir(folder.path().join("trace.bin")).unwrap();
+    for arguments in [&["run"][..], &["extract", "0"]] {
+        let output = call(arguments, Some(folder.path()));
+        assert_eq!(output.status.code(), Some(1));
+        assert_eq!(text(&output.stdout), "");
+        assert!(text(&output.stderr).contains("cannot read"));
+    }
+}
+
+#[test]
+fn a_folder_that_cannot_be_written_is_an_error() {
+    let folder = Folder::new("unwritable").with("file", &[]);
+    let output = call(&["generate", "1"], Some(&folder.path().join("file")));
+    assert_eq!(output.status.code(), Some(1));
+    assert!(text(&output.stderr).contains("cannot create"));
+}
+
+#[test]
+fn help_is_printed_when_asked_for() {
+    let output = call(&["--help"], None);
+    assert_eq!(output.status.code(), Some(0));
+    let usage = text(&output.stdout);
+    for command in [
+        "run DIR",
+        "extract L DIR",
+        "generate SEED DIR",
+        "leaks COUNT",
+    ] {
+        assert!(usage.contains(command), "{command}");
+    }
+}
+
+#[test]
+fn wrong_arguments_are_told_with_the_usage() {
+    let wrong: [&[&str]; 14] = [
+        &[],
+        &["walk"],
+        &["run"],
+        &["run", "a", "b"],
+        &["extract"],
+        &["extract", "0"],
+        &["extract", "x", "a"],
+        &["extract", "-1", "a"],
+        &["generate", "1"],
+        &["generate", "one", "a"],
+        &["leaks"],
+        &["leaks", "many"],
+        &["leaks", "0"],
+        &["--help", "run"],
+    ];
+    for arguments in wrong {
+        let output = call(arguments, None);
+        assert_eq!(output.status.code(), Some(2), "{arguments:?}");
+        assert_eq!(text(&output.stdout), "", "{arguments:?}");
+        let told = text(&output.stderr);
+        assert!(told.contains("usage:"), "{arguments:?}");
+        assert!(!told.contains("panicked"), "{arguments:?}");
+    }
+}

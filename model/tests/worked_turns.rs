@@ -1,0 +1,195 @@
+//! The worked turns (a) to (h) of document 01, and the examples of document
+//! 000's sections 3.2 and 5.1.
+
+mod common;
+
+use common::*;
+use vigambul_model::generate::PolicyFields;
+use vigambul_model::program;
+use vigambul_model::refusal::Refusal;
+use vigambul_model::tick::{offer, tick, Wires};
+
+const DROPPED: bool = true;
+const KEPT: bool = false;
+
+#[test]
+fn a_one_class_owns_every_turn_and_always_drops() {
+    for epoch in [1, 2, 64] {
+        for minimum in [0, 1] {
+            let policy = policy(&[1], epoch, &[minimum], TIMING);
+            let idle = run_fresh(&policy, &[0; 4 * 70]);
+            assert_eq!(owners(&idle), vec![(0, DROPPED); 70]);
+            let busy = run_fresh(&policy, &always_waiting(&policy, &[0], 70));
+            assert_eq!(owners(&busy), vec![(0, DROPPED); 70]);
+        }
+    }
+}
+
+#[test]
+fn b_two_classes_with_minimums_0_and_2() {
+    let policy = printed_policy();
+    let log = run_fresh(&policy, &always_waiting(&policy, &[0], 6));
+    let epoch = [(0, DROPPED), (1, DROPPED), (1, KEPT)];
+    assert_eq!(owners(&log), [epoch, epoch].concat());
+}
+
+#[test]
+fn c_after_a_turn_of_1_the_walk_goes_to_2_so_1_keeps_its_dead_time() {
+    // The minimums take up the whole epoch, so class 0 has a cap of 0.
+    let policy = policy(&FORK, 2, &[0, 1, 1], TIMING);
+    assert_eq!(policy.caps, [0, 2, 2]);
+    let log = run_fresh(&policy, &always_waiting(&policy, &[0, 1, 2], 4));
+    assert_eq!(owners(&log), [(1, KEPT), (2, KEPT), (1, KEPT), (2, KEPT)]);
+}
+
+#[test]
+fn c_with_a_cap_that_is_used_up_within_the_epoch() {
+    // E = 4: class 0 takes one turn; the rest alternates between 2 and 1, since
+    // class 0 moved its pointer to 1 when it took its own turn.
+    let policy = policy(&FORK, 4, &[0, 1, 2], TIMING);
+    assert_eq!(policy.caps, [1, 4, 4]);
+    let log = run_fresh(&policy, &always_waiting(&policy, &[0, 1, 2], 4));
+    assert_eq!(
+        owners(&log),
+        [(0, DROPPED), (2, KEPT), (1, KEPT), (2, KEPT)]
+    );
+}
+
+#[test]
+fn d_a_chain_of_three_with_minimums_0_1_1() {
+    let policy = policy(&CHAIN_OF_THREE, 3, &[0, 1, 1], TIMING);
+    let log = run_fresh(&policy, &always_waiting(&policy, &[0, 1], 6));
+    let picked: Vec<u32> = owners(&log).into_iter().map(|(owner, _)| owner).collect();
+    assert_eq!(picked, [0, 1, 1, 0, 1, 1]);
+}
+
+#[test]
+fn e_nobody_waits_and_the_walk_ends_at_a_class_with_nothing_above() {
+    let pick = |rows: &[u16], count: usize| -> Vec<u32> {
+        let policy = policy(rows, 2, &vec![0; rows.len()], TIMING);
+        let log = run_fresh(&policy, &vec![0; 4 * count]);
+        owners(&log).into_iter().map(|(owner, _)| owner).collect()
+    };
+    assert_eq!(pick(&CHAIN_OF_THREE, 4), [2, 2, 2, 2]);
+    assert_eq!(pick(&FORK, 5), [1, 2, 1, 2, 1]);
+    assert_eq!(pick(&DIAMOND, 4), [3, 3, 3, 3]);
+}
+
+#[test]
+fn f_the_eighth_offer_is_taken_the_ninth_gets_11_and_after_an_activate_one_more_is_taken() {
+    let policy = printed_policy();
+    let mut state = fresh(&policy);
+    for tag in 0..8 {
+        assert_eq!(offer(&policy, &mut state, read_request(0, tag)), Ok(()));
+    }
+    let full = state.clone();
+    let ninth = offer(&policy, &mut state, read_request(0, 8));
+    assert_eq!(ninth, Err(Refusal::QueueFull));
+    assert_eq!(state, full);
+    let record = tick(&policy, &mut state).expect("a tick is taken");
+    assert_eq!(record.wires, Wires::Activate(read_request(0, 0)));
+    assert_eq!(offer(&policy, &mut state, read_request(0, 9)), Ok(()));
+    let tenth = offer(&policy, &mut state, read_request(0, 10));
+    assert_eq!(tenth, Err(Refusal::QueueFull));
+}
+
+#[test]
+fn g_a_sum_of_minimums_equal_to_e_is_taken_and_one_more_gets_7() {
+    let number = |epoch, minimums: &[u8]| {
+        file_number(&PolicyFields::new(&CHAIN_OF_TWO, epoch, minimums, TIMING).encode())
+    };
+    assert_eq!(number(3, &[1, 2]), 0);
+    assert_eq!(number(3, &[2, 2]), 7);
+    assert_eq!(number(64, &[32, 32]), 0);
+    assert_eq!(number(64, &[32, 33]), 7);
+    // The sum is not cut down to a byte.
+    assert_eq!(number(64, &[128, 128]), 7);
+}
+
+#[test]
+fn h_the_printed_log() {
+    let trace = [0x07, 0x00, 0x01, 0x80, 0, 0, 0, 0, 0, 0, 0, 0, 0, 0, 0, 0];
+    let printed = "\
+status command answer turn
+00000000 00000000 00000000 00000000
+00000000 80010007 00000000 00000101
+00000000 C0010007 00000000 00000000
+00000000 00000000 80010007 00000000
+";
+    let output = program::output(&PRINTED_POLICY, &trace);
+    assert_eq!(String::from_utf8_lossy(&output), printed);
+}
+
+#[test]
+fn h_the_file_is_laid_out_as_the_generator_lays_it_out() {
+    let fields = PolicyFields::new(&CHAIN_OF_TWO, 3, &[0, 2], TIMING);
+    assert_eq!(fields.encode(), PRINTED_POLICY);
+}
+
+/// Document 000, section 3.2: an epoch of 2, L (class 0) granted at most one
+/// turn in it. Nothing waits at t0: H. Then L and H have requests: L. In the
+/// second epoch only H has: H, H.
+#[test]
+fn section_3_2_owners_h_l_h_h() {
+    let policy = policy(&CHAIN_OF_TWO, 2, &[0, 1], TIMING);
+    assert_eq!(policy.caps, [1, 2]);
+    let mut list = vec![0; 4];
+    list.extend([read_word(1, 1), read_word(0, 2), 0, 0, 0, 0]);
+    list.extend([read_word(1, 3), read_word(1, 4), 0, 0, 0, 0, 0, 0, 0, 0]);
+    let log = run_fresh(&policy, &list);
+    let picked: Vec<u32> = owners(&log).into_iter().map(|(owner, _)| owner).collect();
+    assert_eq!(picked, [1, 0, 1, 1]);
+}
+
+/// The limit itself: L always waiting has one turn of each two.
+#[test]
+fn section_3_2_the_lower_class_has_at_most_one_turn_in_an_epoch() {
+    let policy = policy(&CHAIN_OF_TWO, 2, &[0, 1], TIMING);
+    let log = run_fresh(&policy, &always_waiting(&policy, &[0], 6));
+    let picked: Vec<u32> = owners(&log).into_iter().map(|(owner, _)| owner).collect();
+    assert_eq!(picked, [0, 1, 0, 1, 0, 1]);
+}
+
+/// Document 000, section 5.1: in the diamond, M1 and M2 alternate whether or not
+/// either has requests, once L has none.
+#[test]
+fn section_5_1_round_robin_between_incomparable_classes() {
+    let policy = policy(&DIAMOND, 64, &[0; 4], TIMING);
+    let log = run_fresh(&policy, &always_waiting(&policy, &[1, 2], 6));
+    let picked: Vec<u32> = owners(&log).into_iter().map(|(owner, _)| owner).collect();
+    assert_eq!(picked, [1, 2, 1, 2, 1, 2]);
+    // Class 2 idle: its turn goes up to the greatest class, not over to 1.
+    let log = run_fresh(&policy, &always_waiting(&policy, &[1], 4));
+    let picked: Vec<u32> = owners(&log).into_iter().map(|(owner, _)| owner).collect();
+    assert_eq!(picked, [1, 3, 1, 3]);
+}
+
+/// Document 000, figure 9: a class with three covers counts from 1 to 3 and
+/// then from 1 again; covers are numbered by rising class number.
+#[test]
+fn section_5_1_a_pointer_counts_through_all_covers() {
+    // Class 5 is least, directly below 4, which is directly below 1, 2 and 3;
+    // class 0 is above all of them.
+    let rows = [0b000001, 0b000011, 0b000101, 0b001001, 0b011111, 0b111111];
+    let policy = policy(&rows, 64, &[0; 6], TIMING);
+    assert_eq!(policy.covers[5], [4]);
+    assert_eq!(policy.covers[4], [1, 2, 3]);
+    let log = run_fresh(&policy, &always_waiting(&policy, &[1, 2, 3], 7));
+    let picked: Vec<u32> = owners(&log).into_iter().map(|(owner, _)| owner).collect();
+    assert_eq!(picked, [1, 2, 3, 1, 2, 3, 1]);
+}
+
+/// A class that takes the turn is reached too, so its pointer moves on.
+#[test]
+fn the_pointer_of_an_owner_moves_as_well() {
+    let policy = policy(&FORK, 64, &[0; 3], TIMING);
+    // Class 0 waits at every second turn only: the same cover gets the others.
+    let mut list = Vec::new();
+    for _ in 0..3 {
+        list.push(read_word(0, 0));
+        list.extend([0; 8]);
+    }
+    let log = run_fresh(&policy, &list);
+    let picked: Vec<u32> = owners(&log).into_iter().map(|(owner, _)| owner).collect();
+    assert_eq!(picked, [0, 2, 0, 2, 0, 2]);
+}

@@ -1,2 +1,18 @@
 -- Laws that belong to no one function.
-pub mod Shift
+
+-- of truth values
+pub mod Truth
+-- of "every", "some", "the first", sums and lists below a bound
+pub mod Below
+-- of sets of classes as numbers
+pub mod Sets
+-- of the sets of classes above a class and covering it
+pub mod OrderSets
+-- of the tests on an order: what each says of every class
+pub mod Reflect
+-- of the numbers that the classes of a set have
+pub mod Numbered
+-- of every policy in range
+pub mod Laws
+-- of files: when one is taken, and with which number it is refused
+pub mod Taken

@@ -6,7 +6,7 @@ use native.Mathlib.Omega.{arith}
 use borrow.Author.Needs.{needs}
 use lib.Pow.{pow-pos}
 use Rattle.policy.specs.Mask.{belowMask}
-use Rattle.policy.proofs.Shift.{one-shl}
+use Rattle.policy.proofs.Sets.{one-shl}
 use Rattle.policy.proofs.mask.below_mask.Statement.{statement}
 use Rattle.policy.proofs.mask.below_mask.Tie as tie
 

@@ -1,0 +1,56 @@
+-- `policy::file::held` meets its contract: the definition, with what the callees promise.
+-- Assumes nothing.
+use borrow.Author.Needs.{needs}
+use Rattle.policy.specs.File.{classCount, epochOf, held}
+use Rattle.policy.proofs.file.held.Statement.{statement}
+use Rattle.policy.proofs.file.held.Tie as tie
+
+byte-requires : tie.Need-byte-requires
+byte-requires c κs = search needs
+
+cast-classes : tie.Need-cast-classes
+cast-classes c = search needs
+
+rows-of-requires : tie.Need-rows-of-requires
+rows-of-requires c κs = search needs
+
+start-requires : tie.Need-start-requires
+start-requires c κs = search needs
+
+cast-number : tie.Need-cast-number
+cast-number c = search needs
+
+number-requires : tie.Need-number-requires
+number-requires c κs = search needs
+
+minimums-of-requires : tie.Need-minimums-of-requires
+minimums-of-requires c κs = search needs
+
+timing-of-requires : tie.Need-timing-of-requires
+timing-of-requires c κs = search needs
+
+covers-in-requires : tie.Need-covers-in-requires
+covers-in-requires c κs = search needs
+
+caps-in-requires : tie.Need-caps-in-requires
+caps-in-requires c κs = search needs
+
+returns : tie.Need-returns
+unfolding held classCount epochOf
+returns c = rw (c .caps-in .ensures, c .before .covers-in .ensures, c .before .before .timing-of .ensures, c .before .before .before .minimums-of .ensures, c .before .before .before .before .number .ensures, c .before .before .before .before .before .start .ensures, c .before .before .before .before .before .before .rows-of .ensures, c .before .before .before .before .before .before .before .byte .ensures)
+
+pub held-spec : {M : Type 1} → statement M
+held-spec =
+    tie.close
+    (tie.spec
+    byte-requires
+    cast-classes
+    rows-of-requires
+    start-requires
+    cast-number
+    number-requires
+    minimums-of-requires
+    timing-of-requires
+    covers-in-requires
+    caps-in-requires
+    returns)

@@ -1,0 +1,24 @@
+-- `policy::mask::has` meets its contract: the test is the definition itself, and past 15 a 16-bit number has no bits.
+-- Assumes nothing.
+use mathlib.Core.Path.{refl, sym}
+use borrow.Author.Needs.{needs}
+use Rattle.policy.specs.Mask.{member}
+use Rattle.policy.proofs.Sets.{member-over}
+use Rattle.policy.proofs.mask.has.Statement.{statement}
+use Rattle.policy.proofs.mask.has.Tie as tie
+
+cast-result : tie.Need-cast-result
+cast-result c = search needs
+
+shr-result : tie.Need-shr-result
+shr-result c = search needs
+
+returns : tie.Need-returns
+unfolding member
+returns c = refl
+
+returns-2 : tie.Need-returns-2
+returns-2 c = sym (member-over (c .before .args .set) 16 (c .before .args .class) (c .before .fits .set .fits) (c .if1 .left))
+
+pub has-spec : {M : Type 1} → statement M
+has-spec = tie.close (tie.spec cast-result shr-result returns returns-2)

@@ -1,0 +1,55 @@
+-- `policy::mask::size` meets its contract. The invariant: the count is that of the members below `i`.
+-- Assumes nothing.
+use mathlib.Core.Path.{_≡_, sym, ap, _∙_}
+use mathlib.Core.Logic.{⊎-elim}
+use Prim.Native.Nat.{ℕ, _-_, _≤_}
+use native.Mathlib.Omega.{arith}
+use borrow.Author.Needs.{needs}
+use Rattle.policy.specs.Below.{count}
+use Rattle.policy.specs.Mask.{member, size}
+use Rattle.policy.proofs.Below.{count-none, count-yes, count-no, count-le}
+use Rattle.policy.proofs.mask.size.Statement.{statement}
+use Rattle.policy.proofs.mask.size.Tie as tie
+
+abbrev Inv-loop : tie.InvT-loop
+Inv-loop set n₀ i₀ n i = (n ≡ count i (member set)) × (i ≤ 16)
+
+abbrev μ-loop : tie.MeasureT-loop
+μ-loop set n₀ i₀ n i = 16 - i
+
+loop-holds : tie.Need-loop-holds Inv-loop μ-loop
+loop-holds c = (sym (count-none (member (c .args .set))), omega arith)
+
+has-requires : tie.Need-has-requires Inv-loop μ-loop
+has-requires c κs = search needs
+
+add-n : tie.Need-add-n Inv-loop μ-loop
+add-n c = omega (arith, count-le (member (c .before .before .before .before .args .set)) (c .before .before .before .loop .i))
+
+add-i : tie.Need-add-i Inv-loop μ-loop
+add-i c = search needs
+
+loop-less : tie.Need-loop-less Inv-loop μ-loop
+loop-less c = search needs
+
+loop-again : tie.Need-loop-again Inv-loop μ-loop
+loop-again c =
+    let i = c .before .before .before .loop .i in
+    let f = member (c .before .before .before .before .args .set) in (
+      ⊎-elim
+          (λ w. w .1 ∙ omega (arith, count-yes f i (sym (c .before .has .ensures) ∙ w .0 .taken)))
+          (λ w. w .1 ∙ omega (arith, count-no f i (sym (c .before .has .ensures) ∙ w .0 .left)))
+          (c .if1 .came),
+      omega arith,
+    )
+
+returns : tie.Need-returns Inv-loop μ-loop
+unfolding size
+returns c =
+    let end : c .before .loop .i ≡ 16 = omega arith in
+    c .before .loop .inv .0 ∙ ap (λ (k : ℕ). count k (member (c .before .before .args .set))) end
+
+pub size-spec : {M : Type 1} → statement M
+size-spec =
+    tie.close
+    (tie.spec Inv-loop μ-loop loop-holds has-requires add-n add-i loop-less loop-again returns)

@@ -1,0 +1,23 @@
+-- `policy::order::above_set` meets its contract: the row without its own bit.
+-- Assumes nothing.
+use mathlib.Core.Path.{ap₂, _∙_}
+use borrow.Author.Needs.{needs}
+use Rattle.policy.specs.Mask.{difference}
+use Rattle.policy.proofs.OrderSets.{above-is}
+use Rattle.policy.proofs.order.above_set.Statement.{statement}
+use Rattle.policy.proofs.order.above_set.Tie as tie
+
+row-of-requires : tie.Need-row-of-requires
+row-of-requires c κs = search needs
+
+class-mask-requires : tie.Need-class-mask-requires
+class-mask-requires c κs = search needs
+
+without-requires : tie.Need-without-requires
+without-requires c κs = search needs
+
+returns : tie.Need-returns
+returns c = c .without .ensures ∙ ap₂ difference (c .before .before .row-of .ensures) (c .before .class-mask .ensures) ∙ above-is (c .before .before .before .args .rows) (c .before .before .before .args .class)
+
+pub above-set-spec : {M : Type 1} → statement M
+above-set-spec = tie.close (tie.spec row-of-requires class-mask-requires without-requires returns)

@@ -1,0 +1,96 @@
+-- The policy as a value: what of it is refused, and when it is in range.
+use mathlib.Core.Bool.{Bool, true, false, _&&_, _||_}
+use mathlib.Core.List.{List, [], _∷_}
+use Prim.Native.Nat.{ℕ, suc}
+use lib.Dec.{ltb, eqb}
+use lib.ListN.{length, getD}
+use Rattle.policy.specs.Below.{every}
+use Rattle.policy.specs.Mask.{size, nth}
+use Rattle.policy.specs.Order.{flowsIn, strictlyIn, rowsFit, antisymmetric, transitive, hasLeast, leastIn, coverSet, aboveIn}
+use Rattle.policy.specs.Turns.{turnsSound, capIn}
+use Rattle.policy.specs.Timing.{timingSound, within}
+use Rattle.policy.specs.declared.Policy.{Policy}
+
+-- "class": a number below the class count
+unfoldable pub isClass : Policy → ℕ → Bool
+isClass p i = ltb i (p .classes)
+
+-- class i may flow to class j
+unfoldable pub flows : Policy → ℕ → ℕ → Bool
+flows p i j = flowsIn (p .rows) i j
+
+-- class i is strictly below class j
+unfoldable pub strictly : Policy → ℕ → ℕ → Bool
+strictly p i j = strictlyIn (p .rows) i j
+
+-- the least class; 16, which is no class, where there is none
+unfoldable pub least : Policy → ℕ
+least p = leastIn (p .classes) (p .rows)
+
+-- how many classes are strictly above a class
+unfoldable pub above : Policy → ℕ → ℕ
+above p i = aboveIn (p .rows) i
+
+-- the stored set of the classes that cover a class
+unfoldable pub coversOf : Policy → ℕ → ℕ
+coversOf p i = getD (p .covers) i 0
+
+-- how many classes cover a class
+unfoldable pub coverCount : Policy → ℕ → ℕ
+coverCount p i = size (coversOf p i)
+
+-- "numbered from 1 by rising class number": the cover with number k; 16, which is no class, where there is none
+unfoldable pub cover : Policy → ℕ → ℕ → ℕ
+cover p i k = nth (coversOf p i) k
+
+-- the stored cap of a class
+unfoldable pub cap : Policy → ℕ → ℕ
+cap p i = getD (p .caps) i 0
+
+-- ---- what is refused
+
+-- where the tests that pass come first: the number of the first that fails, counted from k, and 0 where none does
+unfoldable pub firstFailing : ℕ → List Bool → ℕ
+firstFailing k [] = 0
+firstFailing k (true ∷ tests) = firstFailing (suc k) tests
+firstFailing k (false ∷ tests) = k
+
+-- 3 to 8 of "What is turned down", in its order
+unfoldable pub policyTests : Policy → List Bool
+policyTests p =
+    rowsFit (p .classes) (p .rows)
+    ∷ antisymmetric (p .rows)
+    ∷ transitive (p .rows)
+    ∷ hasLeast (p .classes) (p .rows)
+    ∷ turnsSound (p .epoch) (p .minimums)
+    ∷ timingSound (p .timing)
+    ∷ []
+
+-- the number of 3 to 8 that refuses the policy, and 0 where none does
+unfoldable pub refusal : Policy → ℕ
+refusal p = firstFailing 3 (policyTests p)
+
+-- ---- in range
+
+-- "whose stored children or caps are not its order's"; and a number that is no class has no minimum
+unfoldable pub storedFits : Policy → ℕ → Bool
+storedFits p i =
+    eqb (coversOf p i) (coverSet (p .rows) i)
+    && eqb (cap p i) (capIn (p .classes) (p .rows) (p .epoch) (p .minimums) i)
+    && (isClass p i || eqb (getD (p .minimums) i 0) 0)
+
+unfoldable pub allStoredFits : Policy → Bool
+allStoredFits p = every 16 (storedFits p)
+
+-- what the types of the fields say: sixteen entries in each list, and rows of sixteen bits. No policy that a program can hold breaks it.
+unfoldable pub shaped : Policy → Bool
+shaped p =
+    eqb (length (p .rows)) 16
+    && eqb (length (p .minimums)) 16
+    && eqb (length (p .covers)) 16
+    && eqb (length (p .caps)) 16
+    && every 16 (λ i. ltb (getD (p .rows) i 0) 65536)
+
+-- the policy's part of 13: "a policy that 2 to 8 would refuse, or whose stored children or caps are not its order's"
+unfoldable pub inRange : Policy → Bool
+inRange p = shaped p && within 1 (p .classes) 16 && eqb (refusal p) 0 && allStoredFits p

@@ -280,6 +280,11 @@ module _ (p : Policy) (given : inRange p ≡ true) where
       (λ t. (j, covered i j (record { strict = s; direct = unbetween i j t }), own j (to-class i j (strict-flows i j s))))
       (either (betweenIn (p .rows) i j))
 
+  covers-small : (i : ℕ) → coversOf p i < 2 ^ 16
+  unfolding coversOf coverSet
+  covers-small i =
+      ⊎-elim (λ l. rw (covers-stored i l) (setOf-below (coversIn (p .rows) i) 16)) (λ l. rw (past (p .covers) (shape .covers) i l) (lit< tt)) (lt-or-ge i 16)
+
   some-cover : (i j : ℕ) → strictly p i j ≡ true → (k : ℕ) × (member (coversOf p i) k ≡ true) × (flows p k j ≡ true)
   some-cover i j s = descend 16 i j s (omega arith)
 
@@ -287,6 +292,7 @@ module _ (p : Policy) (given : inRange p ≡ true) where
   unfolding cover coverCount
   cover-laws =
       record {
+        sets = covers-small;
         exactly = λ i j. (covering i j, covered i j);
         some-cover = some-cover;
         named = λ i k one h. numbered.named (coversOf p i) k one h .in-set;

@@ -95,6 +95,10 @@ pub member-over : (m n j : ℕ) → m < 2 ^ n → n ≤ j → member m j ≡ fal
 unfolding member bit
 member-over m n j h l = ap (λ (x : ℕ). eqb x 1) (bit-past m n j h l)
 
+-- so a member is a class number
+pub member-small : (m j : ℕ) → m < 2 ^ 16 → member m j ≡ true → j < 16
+member-small m j h e = ⊎-elim (λ l. l) (λ l. absurd (not-both e (member-over m 16 j h l))) (lt-or-ge j 16)
+
 pub member-zero : (j : ℕ) → member 0 j ≡ false
 member-zero j = member-over 0 0 j (lit< tt) zero-le
 

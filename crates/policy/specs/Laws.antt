@@ -3,7 +3,7 @@
 use mathlib.Core.Path.{_≡_}
 use mathlib.Core.Logic.{_↔_}
 use mathlib.Core.Bool.{Bool, true}
-use Prim.Native.Nat.{ℕ, _+_, _≤_, _<_}
+use Prim.Native.Nat.{ℕ, _+_, _^_, _≤_, _<_}
 use lib.ListN.{getD}
 use Rattle.policy.specs.Mask.{member}
 use Rattle.policy.specs.Turns.{minimumsAbove}
@@ -50,6 +50,8 @@ pub record Covering (p : Policy) (i j : ℕ) : Type 0 where
 
 -- "The children of a class are those directly above it (nothing lies between), numbered from 1 by rising class number."
 pub record CoverLaws (p : Policy) : Type 0 where
+  -- covers are sets of classes, as 16-bit numbers
+  pub sets : (i : ℕ) → coversOf p i < 2 ^ 16
   -- the stored set of covers is the set of covers
   pub exactly : (i j : ℕ) → (member (coversOf p i) j ≡ true) ↔ Covering p i j
   -- a class with something above it has a cover, and one on the way there

@@ -1,0 +1,59 @@
+-- `scheduler::queueing::enqueue` meets its contract: a place of a class's ring is one of the 128.
+-- Assumes nothing.
+use native.Mathlib.Omega.{arith}
+use borrow.Author.Needs.{needs}
+use Rattle.scheduler.specs.Queue.{headOf, lengthOf, place, enqueue}
+use Rattle.scheduler.proofs.queueing.enqueue.Statement.{statement}
+use Rattle.scheduler.proofs.queueing.enqueue.Tie as tie
+
+mul-head : tie.Need-mul-head
+mul-head c = search needs
+
+element-copy-out-head : tie.Need-element-copy-out-head
+element-copy-out-head c = search needs
+
+mul-length : tie.Need-mul-length
+mul-length c = search needs
+
+element-copy-out-length : tie.Need-element-copy-out-length
+element-copy-out-length c = search needs
+
+place-requires : tie.Need-place-requires
+place-requires c κs = search needs
+
+mul-slots : tie.Need-mul-slots
+unfolding place
+mul-slots c = omega (arith, c .place .ensures)
+
+element-write-slots : tie.Need-element-write-slots
+unfolding place
+element-write-slots c = omega (arith, c .place .ensures)
+
+add-lengths : tie.Need-add-lengths
+add-lengths c = search needs
+
+mul-lengths : tie.Need-mul-lengths
+mul-lengths c = search needs
+
+element-write-lengths : tie.Need-element-write-lengths
+element-write-lengths c = search needs
+
+returns : tie.Need-returns
+unfolding enqueue headOf lengthOf
+returns c = rw (c .place .ensures)
+
+pub enqueue-spec : {M : Type 1} → statement M
+enqueue-spec =
+    tie.close
+    (tie.spec
+    mul-head
+    element-copy-out-head
+    mul-length
+    element-copy-out-length
+    place-requires
+    mul-slots
+    element-write-slots
+    add-lengths
+    mul-lengths
+    element-write-lengths
+    returns)

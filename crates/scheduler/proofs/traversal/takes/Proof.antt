@@ -1,0 +1,13 @@
+-- `scheduler::traversal::takes` meets its contract: it is the definition.
+-- Assumes nothing.
+use mathlib.Core.Path.{refl}
+use Rattle.scheduler.specs.Traversal.{takesBy}
+use Rattle.scheduler.proofs.traversal.takes.Statement.{statement}
+use Rattle.scheduler.proofs.traversal.takes.Tie as tie
+
+returns : tie.Need-returns
+unfolding takesBy
+returns c = refl
+
+pub takes-spec : {M : Type 1} → statement M
+takes-spec = tie.close (tie.spec returns)

@@ -1,0 +1,66 @@
+-- The answers of the public calls: "0 or the number below", and the state.
+use mathlib.Core.Bool.{true, false, cond}
+use Prim.Native.Nat.{ℕ, _+_}
+use lib.Dec.{ltb}
+use Rattle.policy.specs.declared.Policy.{Policy}
+use Rattle.policy.specs.Policy.{inRange as policyInRange}
+use Rattle.scheduler.specs.Queue.{offerStatus, queuesAfter}
+use Rattle.scheduler.specs.Wire.{dueAt}
+use Rattle.scheduler.specs.Step.{turnStarts, turnsAt, turnWord, drive, answered}
+use Rattle.scheduler.specs.Range.{freshState, zeroState, inRange}
+use Rattle.scheduler.specs.declared.Request.{Request}
+use Rattle.scheduler.specs.declared.Wires.the-variants.{Nothing}
+use Rattle.scheduler.specs.declared.Record.{Record}
+use Rattle.scheduler.specs.declared.Turns.{Turns}
+use Rattle.scheduler.specs.declared.State.{State}
+use Rattle.scheduler.specs.declared.Made.{Made}
+use Rattle.scheduler.specs.declared.Offered.{Offered}
+use Rattle.scheduler.specs.declared.Ticked.{Ticked}
+
+-- "a fresh state asked of an unfit policy is all zeros, with 13"
+unfoldable pub fresh : Policy → Made
+fresh p = elim (policyInRange p) [ true ↦ record { status = 0; state = freshState p } | false ↦ record { status = 13; state = zeroState } ]
+
+-- ---- offers: "Order: .. offers 13, 9, 10, 11"
+
+-- an offer on a state in range: it changes the queues at most, "and changes nothing else in the state"; "A refused call hands back the state it was given"
+unfoldable pub offerOn : State → Request → Offered
+offerOn s r =
+    record {
+      status = offerStatus (s .classes) (s .queues .lengths) r;
+      state =
+          record { cycle = s .cycle; classes = s .classes; queues = queuesAfter (s .classes) (s .queues) r; turns = s .turns; flight = s .flight };
+    }
+
+unfoldable pub offer : Policy → State → Request → Offered
+offer p s r = elim (inRange p s) [ true ↦ offerOn s r | false ↦ record { status = 13; state = s } ]
+
+-- ---- ticks: "ticks 13, 12"
+
+-- a refused tick shows nothing
+unfoldable pub silent : Record
+silent = record { wires = Nothing; response = 0; turn = 0 }
+
+-- "1 + owner, plus 256 if the dead time is dropped", where a turn starts
+unfoldable pub turnShown : Policy → ℕ → Turns → ℕ
+turnShown p t turns = cond (turnStarts p t) (turnWord turns) 0
+
+unfoldable pub afterTick : Policy → State → Ticked
+afterTick p s =
+    let t = s .cycle in
+    let turns = turnsAt p t (s .queues .lengths) (s .turns) in
+    let driven = drive (p .timing) t (turns .owner) (turns .elided) (s .queues) (s .flight) in
+    record {
+      status = 0;
+      state =
+          record { cycle = t + 1; classes = s .classes; queues = driven .queues; turns = turns; flight = answered t (driven .flight) };
+      shown =
+          record { wires = driven .wires; response = dueAt (driven .flight .responses) t; turn = cond (turnStarts p t) (turnWord turns) 0 };
+    }
+
+-- a tick on a state in range: 12 is "a tick after 16,777,215 ticks"
+unfoldable pub tickOn : Policy → State → Ticked
+tickOn p s = elim (ltb (s .cycle) 16777215) [ true ↦ afterTick p s | false ↦ record { status = 12; state = s; shown = silent } ]
+
+unfoldable pub tick : Policy → State → Ticked
+tick p s = elim (inRange p s) [ true ↦ tickOn p s | false ↦ record { status = 13; state = s; shown = silent } ]

@@ -1,0 +1,22 @@
+-- The definitions that the contracts of `scheduler` cite, in reading order. Beside each, the part of document 01 that it carries.
+
+-- "Trace, log and extract": a request's word, and what 9 and 10 refuse of a request
+pub mod Word
+-- "A tick": the waiting requests of a class
+pub mod Queue
+-- "The walk": who owns a turn
+pub mod Traversal
+-- what the traversal rests on
+pub mod Climb
+-- "Dead time": when it is elided
+pub mod Lookahead
+-- "A tick": pending columns and responses, last activates and gaps
+pub mod Wire
+-- what the second step rests on
+pub mod Ready
+-- "A tick": a turn's start, and the three steps
+pub mod Step
+-- fresh states, and what 13 refuses
+pub mod Range
+-- the answers of the public calls
+pub mod Call

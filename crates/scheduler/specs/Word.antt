@@ -1,0 +1,55 @@
+-- Requests and their words: "An offer has bit 31 set, class in bits 24 to 28, kind in 20 and 21 (0 read, 1 write), bank in 16 to 19 (0 to 7), tag in 0 to 15,
+-- other bits 0." A request is stored by its word, and 0 is none.
+use mathlib.Core.Bool.{Bool, _&&_}
+use Prim.Native.Nat.{ℕ, _+_, _*_, _/_, _%_}
+use lib.Dec.{leb, ltb, eqb}
+use Rattle.scheduler.specs.declared.Request.{Request}
+use Rattle.scheduler.specs.declared.Wires.{Wires}
+use Rattle.scheduler.specs.declared.Wires.the-variants.{Nothing, Activate, Column}
+
+-- ---- the fields of a word
+
+unfoldable pub classOf : ℕ → ℕ
+classOf w = w / 16777216 % 32
+
+unfoldable pub kindOf : ℕ → ℕ
+kindOf w = w / 1048576 % 4
+
+unfoldable pub bankOf : ℕ → ℕ
+bankOf w = w / 65536 % 16
+
+unfoldable pub tagOf : ℕ → ℕ
+tagOf w = w % 65536
+
+-- the word has the form of an offer: bit 31 set, and bits 22, 23, 29 and 30 not
+unfoldable pub isOffer : ℕ → Bool
+isOffer w = eqb (w / 536870912) 4 && eqb (w / 4194304 % 4) 0
+
+unfoldable pub requestOf : ℕ → Request
+requestOf w = record { class = classOf w; kind = kindOf w; bank = bankOf w; tag = tagOf w }
+
+-- the word of a request. Of a number too large for its field the papers say nothing: its low bits are taken.
+unfoldable pub wordOf : Request → ℕ
+wordOf r = 2147483648 + r .class % 32 * 16777216 + r .kind % 4 * 1048576 + r .bank % 16 * 65536 + r .tag % 65536
+
+-- ---- what 9 and 10 refuse
+
+-- 9: "class not below n"
+unfoldable pub classFits : ℕ → Request → Bool
+classFits n r = ltb (r .class) n
+
+-- 10: "bank above 7 or kind above 1"
+unfoldable pub bankAndKindFit : Request → Bool
+bankAndKindFit r = leb (r .bank) 7 && leb (r .kind) 1
+
+-- a stored word is that of a request which 9 and 10 do not refuse
+unfoldable pub soundWord : ℕ → ℕ → Bool
+soundWord n w = isOffer w && classFits n (requestOf w) && bankAndKindFit (requestOf w)
+
+-- ---- what a record's parts are in the log
+
+-- "A command or answer is the offer's word, with bit 30 set for a column command; 0 is none."
+unfoldable pub commandNumber : Wires → ℕ
+commandNumber Nothing = 0
+commandNumber (Activate r) = wordOf r
+commandNumber (Column r) = wordOf r + 1073741824

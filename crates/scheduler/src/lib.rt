@@ -1,0 +1,370 @@
+// The scheduler: requests wait in a queue for each class, the traversal gives each turn an owner, and each tick drives the command wires and hands responses back.
+
+ghost use mathlib.Core.Path.{_≡_};
+ghost use Rattle.scheduler.specs.Range.{emptyQueues, nothingInFlight, stateAtStart, countsInRange, flightInRange, stateInRange, inRange};
+ghost use Prim.Native.Nat.{_<_};
+ghost use mathlib.Core.Bool.{true};
+ghost use Rattle.policy.specs.Policy.{inRange as policyInRange};
+ghost use Rattle.scheduler.specs.Step.{turnsAt};
+ghost use Rattle.scheduler.specs.Call.{fresh, offer, turnShown, silent, afterTick, tick};
+use policy::Policy;
+use policy::Timing;
+
+mod driving;
+mod lookahead;
+mod queueing;
+mod range;
+mod traversal;
+mod turning;
+pub mod words;
+
+// A request, as an offer makes it.
+pub struct Request {
+    pub class: u32,
+    // 0 is a read, 1 a write.
+    pub kind: u32,
+    pub bank: u32,
+    pub tag: u32,
+}
+
+// What the command wires carried in a tick.
+pub enum Wires {
+    Nothing,
+    Activate(Request),
+    // Document 01: a column command.
+    Column(Request),
+}
+
+// What a tick shows.
+pub struct Record {
+    pub wires: Wires,
+    // The word of the response, 0 for none. Document 01: the answer.
+    pub response: u32,
+    // 0 unless a turn starts, then 1 and the owner, and 256 more if its dead time is elided.
+    pub turn: u32,
+}
+
+// The waiting requests, by their words: a ring of eight places for each class, at eight times the class.
+pub struct Queues {
+    pub slots: [u32; 128],
+    // The place of each class's oldest request in its ring.
+    pub heads: [usize; 16],
+    // How many requests of each class wait.
+    pub lengths: [usize; 16],
+}
+
+// Who has the turn, and what each class has left.
+pub struct Turns {
+    pub owner: usize,
+    // Whether the owner's dead time is elided. Document 01: dropped.
+    pub elided: bool,
+    // The turns that each class has left in the epoch.
+    pub left: [u32; 16],
+    // Each class's round-robin pointer: the number of the cover that it names, 0 before the class was reached. Document 01: its mark.
+    pub pointers: [usize; 16],
+}
+
+// What is on its way, and when the last activates were.
+pub struct Flight {
+    // The words of the pending column commands and responses, each at its due cycle modulo 32; 0 for none.
+    pub columns: [u32; 32],
+    pub responses: [u32; 32],
+    // The last activate of each bank, and of all: twice one more than its cycle, plus its kind; 0 where there was none.
+    pub banks: [u32; 8],
+    pub last: u32,
+}
+
+// A state between two calls.
+pub struct State {
+    // The number of the next tick.
+    pub cycle: u32,
+    // The policy's class count.
+    pub classes: usize,
+    pub queues: Queues,
+    pub turns: Turns,
+    pub flight: Flight,
+}
+
+// The answer of asking for a fresh state: 0, or 13 and the state of all zeros.
+pub struct Made {
+    pub status: u32,
+    pub state: State,
+}
+
+// The answer of an offer: 0, or the number that refuses it, and the state after it.
+pub struct Offered {
+    pub status: u32,
+    pub state: State,
+}
+
+// The answer of a tick: 0, or the number that refuses it, the state after it, and what it showed.
+pub struct Ticked {
+    pub status: u32,
+    pub state: State,
+    pub shown: Record,
+}
+
+fn counts_in_range(p: Policy, s: State) -> bool
+    ensures { λ r. ⌜ r ≡ countsInRange p s ⌝ }
+{
+    let turns = s.turns;
+    (s.classes == p.classes) & (turns.owner < p.classes) & (s.cycle <= 16777215)
+}
+
+fn flight_in_range(classes: usize, timing: Timing, cycle: u32, flight: Flight) -> bool
+    requires { ⌜ cycle < 16777216 ⌝ }
+    ensures { λ r. ⌜ r ≡ flightInRange classes timing cycle flight ⌝ }
+{
+    let columns = flight.columns;
+    let responses = flight.responses;
+    let banks = flight.banks;
+    range::activate_in_range(cycle, flight.last)
+        & range::banks_in_range(cycle, &banks)
+        & range::pending_in_range(classes, cycle, timing.column, &columns)
+        & range::pending_in_range(classes, cycle, timing.response, &responses)
+}
+
+// The state's part of document 01's row 13.
+fn state_in_range(s: State, p: Policy) -> bool
+    ensures { λ r. ⌜ r ≡ stateInRange p s ⌝ }
+{
+    if !counts_in_range(p, s) {
+        return false;
+    }
+    let queues = s.queues;
+    let slots = queues.slots;
+    let heads = queues.heads;
+    let lengths = queues.lengths;
+    let turns = s.turns;
+    let left = turns.left;
+    let pointers = turns.pointers;
+    let flight = s.flight;
+    let covers = p.covers;
+    let caps = p.caps;
+    let timing = p.timing;
+    range::queues_in_range(p.classes, &slots, &heads, &lengths)
+        & range::turns_in_range(&covers, &caps, &left, &pointers)
+        & flight_in_range(p.classes, timing, s.cycle, flight)
+}
+
+// Whether a policy and a state handed in are in range: document 01's row 13 does not apply.
+pub fn in_range(p: Policy, s: State) -> bool
+    ensures { λ r. ⌜ r ≡ inRange p s ⌝ }
+{
+    policy::in_range(p) & state_in_range(s, p)
+}
+
+fn empty_queues() -> Queues
+    ensures { λ r. ⌜ r ≡ emptyQueues ⌝ }
+{
+    Queues {
+        slots: [0u32; 128],
+        heads: [0usize; 16],
+        lengths: [0usize; 16],
+    }
+}
+
+fn nothing_in_flight() -> Flight
+    ensures { λ r. ⌜ r ≡ nothingInFlight ⌝ }
+{
+    Flight {
+        columns: [0u32; 32],
+        responses: [0u32; 32],
+        banks: [0u32; 8],
+        last: 0,
+    }
+}
+
+// A state at cycle 0 with these turns left: empty queues, nothing in flight, pointers 0, owner 0 and its dead time kept.
+fn state_at_start(classes: usize, left: [u32; 16]) -> State
+    ensures { λ r. ⌜ r ≡ stateAtStart classes left ⌝ }
+{
+    let queues = empty_queues();
+    let flight = nothing_in_flight();
+    let turns = Turns {
+        owner: 0,
+        elided: false,
+        left,
+        pointers: [0usize; 16],
+    };
+    State {
+        cycle: 0,
+        classes,
+        queues,
+        turns,
+        flight,
+    }
+}
+
+// The fresh state of a policy: 0 and the state, or 13 and the state of all zeros where the policy is unfit.
+pub fn fresh(p: Policy) -> Made
+    ensures { λ r. ⌜ r ≡ fresh p ⌝ }
+{
+    if !policy::in_range(p) {
+        let state = state_at_start(0, [0u32; 16]);
+        return Made { status: 13, state };
+    }
+    let caps = p.caps;
+    let state = state_at_start(p.classes, caps);
+    Made { status: 0, state }
+}
+
+// An offer: 13, 9, 10, 11 in that order. Taken, it goes to the end of its class's queue as it is, and nothing else changes.
+pub fn offer(p: Policy, s: State, r: Request) -> Offered
+    ensures { λ o. ⌜ o ≡ offer p s r ⌝ }
+{
+    if !in_range(p, s) {
+        return Offered {
+            status: 13,
+            state: s,
+        };
+    }
+    let before = s.queues;
+    let mut slots = before.slots;
+    let heads = before.heads;
+    let mut lengths = before.lengths;
+    let status = queueing::offer(s.classes, &mut slots, &heads, &mut lengths, r);
+    let queues = Queues {
+        slots,
+        heads,
+        lengths,
+    };
+    let turns = s.turns;
+    let flight = s.flight;
+    let state = State {
+        cycle: s.cycle,
+        classes: s.classes,
+        queues,
+        turns,
+        flight,
+    };
+    Offered { status, state }
+}
+
+// The turns as a tick has them: a turn starts at each multiple of the turn length.
+fn turns_at(p: Policy, cycle: u32, lengths: &[usize; 16], turns: Turns) -> Turns
+    requires { ⌜ (policyInRange p ≡ true) × (cycle < 16777215) ⌝ }
+    ensures { λ r. ⌜ r ≡ turnsAt p cycle (now (lengths .entry)) turns ⌝ }
+{
+    let timing = p.timing;
+    if cycle % timing.turn != 0 {
+        return turns;
+    }
+    let left = turns.left;
+    let pointers = turns.pointers;
+    turning::start_turn(p, cycle / timing.turn, lengths, left, pointers)
+}
+
+// The turn's number in the log: 0 unless one starts.
+fn turn_shown(p: Policy, cycle: u32, turns: Turns) -> u32
+    requires { ⌜ (policyInRange p ≡ true) × (turns .owner < 16) ⌝ }
+    ensures { λ r. ⌜ r ≡ turnShown p cycle turns ⌝ }
+{
+    let timing = p.timing;
+    if cycle % timing.turn != 0 {
+        return 0;
+    }
+    let owner = turns.owner as u32;
+    if turns.elided {
+        1 + owner + 256
+    } else {
+        1 + owner + 0
+    }
+}
+
+// What a refused tick shows: nothing.
+fn silent() -> Record
+    ensures { λ r. ⌜ r ≡ silent ⌝ }
+{
+    Record {
+        wires: Wires::Nothing,
+        response: 0,
+        turn: 0,
+    }
+}
+
+// The three steps of a tick, on a state in range with a tick left.
+fn step(s: State, p: Policy) -> Ticked
+    requires { ⌜ (inRange p s ≡ true) × (s .cycle < 16777215) ⌝ }
+    ensures { λ r. ⌜ r ≡ afterTick p s ⌝ }
+{
+    let cycle = s.cycle;
+    let before = s.queues;
+    let slots = before.slots;
+    let mut heads = before.heads;
+    let mut lengths = before.lengths;
+    let flight = s.flight;
+    let mut columns = flight.columns;
+    let mut responses = flight.responses;
+    let mut banks = flight.banks;
+    let timing = p.timing;
+    let old = s.turns;
+    let turns = turns_at(p, cycle, &lengths, old);
+    let drove = driving::drive(
+        timing,
+        cycle,
+        turns.owner,
+        turns.elided,
+        &slots,
+        &mut heads,
+        &mut lengths,
+        &mut columns,
+        &mut responses,
+        &mut banks,
+        flight.last,
+    );
+    let response = driving::answer(cycle, &mut responses);
+    let turn = turn_shown(p, cycle, turns);
+    let queues = Queues {
+        slots,
+        heads,
+        lengths,
+    };
+    let flying = Flight {
+        columns,
+        responses,
+        banks,
+        last: drove.last,
+    };
+    let wires = drove.wires;
+    let shown = Record {
+        wires,
+        response,
+        turn,
+    };
+    let state = State {
+        cycle: cycle + 1,
+        classes: s.classes,
+        queues,
+        turns,
+        flight: flying,
+    };
+    Ticked {
+        status: 0,
+        state,
+        shown,
+    }
+}
+
+// A tick: 13, 12; else the three steps of document 01's "A tick".
+pub fn tick(p: Policy, s: State) -> Ticked
+    ensures { λ r. ⌜ r ≡ tick p s ⌝ }
+{
+    if !in_range(p, s) {
+        let shown = silent();
+        return Ticked {
+            status: 13,
+            state: s,
+            shown,
+        };
+    }
+    if 16777215 <= s.cycle {
+        let shown = silent();
+        return Ticked {
+            status: 12,
+            state: s,
+            shown,
+        };
+    }
+    step(s, p)
+}

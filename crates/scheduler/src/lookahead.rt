@@ -1,0 +1,32 @@
+// The lookahead: whether the owner's dead time is elided. Document 01: the trial walk.
+
+ghost use mathlib.Core.Path.{_≡_};
+ghost use Prim.Native.Nat.{_<_};
+ghost use Rattle.scheduler.specs.Lookahead.{reaches};
+ghost use Rattle.scheduler.specs.Climb.{Climbs};
+use super::traversal;
+
+// Whether the lookahead, from a class on, reaches the owner. The pointers stay as they are.
+pub(crate) fn reaches(
+    rows: &[u16; 16],
+    covers: &[u16; 16],
+    left: &[u32; 16],
+    pointers: &[usize; 16],
+    owner: usize,
+    from: usize,
+) -> bool
+    requires { ⌜ Climbs (now rows) (now covers) × (from < 16) ⌝ }
+    ensures { λ r. ⌜ r ≡ reaches 16 (now (rows .entry)) (now (covers .entry)) (now (left .entry)) (now (pointers .entry)) owner from ⌝ }
+{
+    let mut class = from;
+    while class != owner {
+        let flows = policy::mask::has(rows[class], owner);
+        let spent = left[class] == 0;
+        if !(flows & spent) {
+            return false;
+        }
+        let pointer = traversal::moved(covers[class], pointers[class]);
+        class = policy::mask::nth(covers[class], pointer);
+    }
+    true
+}

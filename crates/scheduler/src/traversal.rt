@@ -1,0 +1,64 @@
+// The traversal: which class owns a turn. Document 01: the walk.
+
+ghost use mathlib.Core.Path.{_≡_};
+ghost use Prim.Native.Nat.{_≤_, _<_};
+ghost use lib.ListN.{length, getD};
+ghost use Rattle.policy.specs.Mask.{size, nth};
+ghost use Rattle.scheduler.specs.Traversal.{moved, takesBy, tryClass};
+ghost use Rattle.scheduler.specs.Climb.{Climbs};
+
+// The round-robin pointer, moved on by 1: from the number of covers back to 1, and 0 where there are none.
+pub(crate) fn moved(covers: u16, pointer: usize) -> usize
+    ensures { λ r. ⌜ r ≡ moved covers pointer ⌝ }
+{
+    if covers == 0 {
+        return 0;
+    }
+    if pointer < policy::mask::size(covers) {
+        pointer + 1
+    } else {
+        1
+    }
+}
+
+// A class takes the turn if it has a request waiting and turns left, or if nothing is above it, so that it has no cover.
+fn takes(covers: u16, length: usize, left: u32) -> bool
+    ensures { λ r. ⌜ r ≡ takesBy covers length left ⌝ }
+{
+    (length != 0) & (left != 0) | (covers == 0)
+}
+
+// A class is tried: its pointer moves, and it takes the turn or passes it on. The rows are those of the order: what the recursion falls by.
+pub(crate) fn try_class(
+    rows: &[u16; 16],
+    covers: &[u16; 16],
+    lengths: &[usize; 16],
+    left: &[u32; 16],
+    pointers: &mut [usize; 16],
+    class: usize,
+) -> usize
+    requires { ⌜ Climbs (now rows) (now covers) × (class < 16) × (length (now pointers) ≡ 16) ⌝ }
+    ensures { λ r. ⌜ record { owner = r; pointers = now (pointers .exit) } ≡ tryClass 16 (now (covers .entry)) (now (lengths .entry)) (now (left .entry)) (now (pointers .entry)) class ⌝ }
+{
+    pointers[class] = moved(covers[class], pointers[class]);
+    if takes(covers[class], lengths[class], left[class]) {
+        return class;
+    }
+    ascend(rows, covers, lengths, left, pointers, class)
+}
+
+// The turn ascends to the cover that the class's pointer names.
+fn ascend(
+    rows: &[u16; 16],
+    covers: &[u16; 16],
+    lengths: &[usize; 16],
+    left: &[u32; 16],
+    pointers: &mut [usize; 16],
+    class: usize,
+) -> usize
+    requires { ⌜ Climbs (now rows) (now covers) × (class < 16) × (length (now pointers) ≡ 16) × (1 ≤ getD (now pointers) class 0) × (getD (now pointers) class 0 ≤ size (getD (now covers) class 0)) ⌝ }
+    ensures { λ r. ⌜ record { owner = r; pointers = now (pointers .exit) } ≡ tryClass 16 (now (covers .entry)) (now (lengths .entry)) (now (left .entry)) (now (pointers .entry)) (nth (getD (now (covers .entry)) class 0) (getD (now (pointers .entry)) class 0)) ⌝ }
+{
+    let next = policy::mask::nth(covers[class], pointers[class]);
+    try_class(rows, covers, lengths, left, pointers, next)
+}

@@ -8,3 +8,5 @@ pub mod Ordered
 pub mod Drives
 -- of every state in range: what each clause says
 pub mod Ranged
+-- of the lookahead: what an elided turn says of the next
+pub mod Elision

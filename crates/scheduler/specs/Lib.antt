@@ -20,3 +20,5 @@ pub mod Step
 pub mod Range
 -- the answers of the public calls
 pub mod Call
+-- the laws that noninterference rests on
+pub mod Laws

@@ -371,6 +371,7 @@ module _ (p : Policy) (given : inRange p ≡ true) where
         is-rest = λ i l. omega (arith, cap-is i l, room i (lt-of-lt-of-le l (few .1)));
         at-least-own = λ i l. omega (arith, cap-is i l, room i (lt-of-lt-of-le l (few .1)));
         at-most-epoch = λ i. ⊎-elim (λ l. omega (arith, cap-is i l)) (λ l. omega (arith, cap-none i l)) (lt-or-ge i (p .classes));
+        sixteen = shape .caps;
       }
 
 -- ---- the timing

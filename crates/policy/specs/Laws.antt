@@ -4,7 +4,7 @@ use mathlib.Core.Path.{_≡_}
 use mathlib.Core.Logic.{_↔_}
 use mathlib.Core.Bool.{Bool, true}
 use Prim.Native.Nat.{ℕ, _+_, _^_, _≤_, _<_}
-use lib.ListN.{getD}
+use lib.ListN.{length, getD}
 use Rattle.policy.specs.Mask.{member}
 use Rattle.policy.specs.Turns.{minimumsAbove}
 use Rattle.policy.specs.Policy.{flows, strictly, least, above, coversOf, coverCount, cover, cap}
@@ -75,6 +75,8 @@ pub record CapLaws (p : Policy) : Type 0 where
   pub is-rest : (i : ℕ) → i < p .classes → cap p i + minimumsAbove (p .rows) (p .minimums) i ≡ p .epoch
   pub at-least-own : (i : ℕ) → i < p .classes → getD (p .minimums) i 0 ≤ cap p i
   pub at-most-epoch : (i : ℕ) → cap p i ≤ p .epoch
+  -- one is stored for each of the sixteen numbers
+  pub sixteen : length (p .caps) ≡ 16
 
 -- the timing's bounds: "each gap 1 to the dead time", the answer delay at most the dead time, the dead time below the turn length, the column delay below the answer delay
 pub record TimingLaws (t : Timing) : Type 0 where

@@ -1,5 +1,9 @@
 -- Laws that belong to no one function.
 
+-- of requests and their words: each is the other's
+pub mod Reading
+-- of the queues: what an enqueue and a dequeue do to each class's
+pub mod Waiting
 -- of the traversal: where a pointer leads, and that there is always enough to ascend by
 pub mod Climbing
 -- of every policy in range: what the traversal rests on
@@ -10,3 +14,11 @@ pub mod Drives
 pub mod Ranged
 -- of the lookahead: what an elided turn says of the next
 pub mod Elision
+-- of what is pending: it stays in range as cycles go by
+pub mod Pending
+-- of a turn's start: owner, pointers and turns left stay in range
+pub mod Charged
+-- of every state in range: its parts, and back
+pub mod Whole
+-- of every call: it keeps a state in range
+pub mod Kept

@@ -1,0 +1,88 @@
+-- What an enqueue and a dequeue do to the waiting requests of each class.
+-- Assumes nothing.
+use mathlib.Core.Path.{_≡_, refl, sym, ap, _∙_, subst}
+use mathlib.Core.Logic.{_≢_}
+use Prim.Native.Nat.{ℕ, _+_, _-_, _%_, _<_}
+use native.Mathlib.Nat.{lt-irrefl, lt-trans}
+use native.Mathlib.Omega.{arith}
+use lib.ListN.{length, getD, set}
+use lib.Seq.{getD-set-same, getD-set-other}
+use Rattle.scheduler.specs.Queue.{headOf, lengthOf, place, waitingAt, enqueue, dequeue}
+use Rattle.scheduler.specs.declared.Queues.{Queues}
+
+-- ---- places
+
+place-class : (c h k d i l : ℕ) → place c h k ≡ place d i l → c ≡ d
+unfolding place
+place-class c h k d i l e = omega (arith, e)
+
+place-number : (c h k l : ℕ) → k < 8 → l < 8 → place c h k ≡ place c h l → k ≡ l
+unfolding place
+place-number c h k l a b e = omega (arith, a, b, e)
+
+place-small : (c h k : ℕ) → c < 16 → place c h k < 128
+unfolding place
+place-small c h k l = omega (arith, l)
+
+place-next : (c h k : ℕ) → place c ((h + 1) % 8) k ≡ place c h (k + 1)
+unfolding place
+place-next c h k = omega arith
+
+-- ---- an enqueue
+
+module _ (q : Queues) (c w : ℕ) where
+  pub enqueue-head : (d : ℕ) → headOf (enqueue q c w) d ≡ headOf q d
+  unfolding headOf enqueue
+  enqueue-head d = refl
+
+  pub enqueue-longer : c < length (q .lengths) → lengthOf (enqueue q c w) c ≡ lengthOf q c + 1
+  unfolding lengthOf enqueue
+  enqueue-longer h = getD-set-same (q .lengths) c (lengthOf q c + 1) 0 h
+
+  pub enqueue-else : (d : ℕ) → d ≢ c → lengthOf (enqueue q c w) d ≡ lengthOf q d
+  unfolding lengthOf enqueue
+  enqueue-else d h = getD-set-other (q .lengths) c d (lengthOf q c + 1) 0 h
+
+  -- the new one is the last
+  pub enqueue-last : c < 16 → length (q .slots) ≡ 128 → waitingAt (enqueue q c w) c (lengthOf q c) ≡ w
+  unfolding waitingAt enqueue headOf
+  enqueue-last l h = getD-set-same (q .slots) (place c (headOf q c) (lengthOf q c)) w 0 (subst (λ (n : ℕ). place c (headOf q c) (lengthOf q c) < n) (sym h) (place-small c (headOf q c) (lengthOf q c) l))
+
+  -- those before it stay
+  pub enqueue-before : (k : ℕ) → k < lengthOf q c → lengthOf q c < 8 → waitingAt (enqueue q c w) c k ≡ waitingAt q c k
+  unfolding waitingAt enqueue headOf
+  enqueue-before k l s = getD-set-other (q .slots) (place c (headOf q c) (lengthOf q c)) (place c (headOf q c) k) w 0 (λ e. lt-irrefl k (subst (λ (n : ℕ). k < n) (sym (place-number c (headOf q c) k (lengthOf q c) (lt-trans l s) s e)) l))
+
+  -- and so do those of other classes
+  pub enqueue-apart : (d k : ℕ) → d ≢ c → waitingAt (enqueue q c w) d k ≡ waitingAt q d k
+  unfolding waitingAt enqueue headOf
+  enqueue-apart d k h = getD-set-other (q .slots) (place c (headOf q c) (lengthOf q c)) (place d (headOf q d) k) w 0 (λ e. h (place-class d (headOf q d) k c (headOf q c) (lengthOf q c) e))
+
+-- ---- a dequeue
+
+module _ (q : Queues) (c : ℕ) where
+  pub dequeue-head : c < length (q .heads) → headOf (dequeue q c) c ≡ (headOf q c + 1) % 8
+  unfolding headOf dequeue
+  dequeue-head h = getD-set-same (q .heads) c ((headOf q c + 1) % 8) 0 h
+
+  pub dequeue-shorter : c < length (q .lengths) → lengthOf (dequeue q c) c ≡ lengthOf q c - 1
+  unfolding lengthOf dequeue
+  dequeue-shorter h = getD-set-same (q .lengths) c (lengthOf q c - 1) 0 h
+
+  pub dequeue-else-head : (d : ℕ) → d ≢ c → headOf (dequeue q c) d ≡ headOf q d
+  unfolding headOf dequeue
+  dequeue-else-head d h = getD-set-other (q .heads) c d ((headOf q c + 1) % 8) 0 h
+
+  pub dequeue-else : (d : ℕ) → d ≢ c → lengthOf (dequeue q c) d ≡ lengthOf q d
+  unfolding lengthOf dequeue
+  dequeue-else d h = getD-set-other (q .lengths) c d (lengthOf q c - 1) 0 h
+
+  -- each moves up by one
+  pub dequeue-next : c < length (q .heads) → (k : ℕ) → waitingAt (dequeue q c) c k ≡ waitingAt q c (k + 1)
+  unfolding waitingAt dequeue
+  dequeue-next h k = ap (λ (x : ℕ). getD (q .slots) (place c x k) 0) (dequeue-head h) ∙ ap (λ (x : ℕ). getD (q .slots) x 0) (place-next c (headOf q c) k)
+
+  -- those of other classes stay
+  pub dequeue-apart : (d k : ℕ) → d ≢ c → waitingAt (dequeue q c) d k ≡ waitingAt q d k
+  unfolding waitingAt dequeue
+  dequeue-apart d k h = ap (λ (x : ℕ). getD (q .slots) (place d x k) 0) (dequeue-else-head d h)

@@ -1,28 +1,26 @@
 -- A turn's start keeps what 13 asks of the turns: the owner is a class, pointers stay within the covers, and turns left within the caps.
 -- Assumes nothing.
-use mathlib.Core.Path.{_≡_, refl, sym, ap, _∙_, subst}
+use mathlib.Core.Path.{_≡_, sym, ap, _∙_, subst}
 use mathlib.Core.Logic.{⊎-elim}
 use mathlib.Core.Bool.{Bool, true, false, cond}
 use mathlib.Core.List.{List}
 use Prim.Native.Nat.{ℕ, zero, suc, _-_, _%_, _≤_, _<_, zero-le}
 use native.Mathlib.Nat.{le-refl, lt-of-lt-of-le}
 use native.Mathlib.Omega.{arith}
-use borrow.Author.Tests.{eqb-true, eqb-false, eq-eqb, ne-eqb, leb-true, le-leb}
-use lib.Dec.{leb, eqb}
+use borrow.Author.Tests.{eqb-true, eqb-false}
+use lib.Dec.{eqb}
 use lib.ListN.{length, getD, set, length-set}
 use lib.Seq.{getD-set-same, getD-set-other}
-use Rattle.policy.specs.Mask.{size}
 use Rattle.policy.specs.Policy.{coversOf, coverCount, cap, least, inRange}
 use Rattle.policy.specs.declared.Policy.{Policy}
-use Rattle.policy.proofs.Truth.{either, and-left, and-right, and-both}
+use Rattle.policy.proofs.Truth.{either}
 use Rattle.policy.proofs.Sets.{member-small}
 use Rattle.policy.proofs.Laws.{policy-laws}
 use Rattle.scheduler.specs.Traversal.{moved, movedPointer, named, takes, Reached, tryClass, charge}
 use Rattle.scheduler.specs.Step.{turnStarts, turnNumber, leftAtStart, ownedBy, startTurn, turnsAt}
-use Rattle.scheduler.specs.Range.{turnsInRange}
 use Rattle.scheduler.specs.declared.Turns.{Turns}
 use Rattle.scheduler.proofs.Climbing.{on-true, on-false, moved-names, named-covers, passes-on, try-takes, try-passes}
-use Rattle.scheduler.proofs.Ordered.{climbs, least-small, owner-small, pointers-kept}
+use Rattle.scheduler.proofs.Ordered.{climbs, least-small}
 use Rattle.scheduler.proofs.Elision.{ascends}
 
 -- sixteen numbers, each within its bound

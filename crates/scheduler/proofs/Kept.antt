@@ -2,7 +2,7 @@
 -- Assumes nothing.
 use mathlib.Core.Path.{_≡_, refl, sym, ap, _∙_, subst}
 use mathlib.Core.Logic.{_≢_, inl, ⊎-elim}
-use mathlib.Core.Bool.{Bool, true, false, cond, not, _&&_, _||_}
+use mathlib.Core.Bool.{Bool, true, false, cond, not, _&&_}
 use mathlib.Core.List.{List}
 use Prim.Native.Nat.{ℕ, zero, suc, _+_, _-_, _/_, _%_, _≤_, _<_, zero-le}
 use native.Mathlib.Nat.{lt-of-lt-of-le, not-suc-le-zero}
@@ -10,8 +10,7 @@ use native.Mathlib.Omega.{arith}
 use borrow.Author.Tests.{eqb-true, eqb-false, eq-eqb, leb-true, le-leb, ltb-true, lt-ltb}
 use lib.Arith.{lt-of-le-ne}
 use lib.Dec.{leb, ltb, eqb, lit<}
-use lib.ListN.{length, getD, set, length-set}
-use lib.Seq.{getD-set-same, getD-set-other}
+use lib.ListN.{length, getD, length-set}
 use Rattle.policy.specs.Laws.{TimingLaws}
 use Rattle.policy.specs.Policy.{coverCount}
 use Rattle.policy.specs.Policy.{inRange as policyInRange}
@@ -20,10 +19,10 @@ use Rattle.policy.specs.declared.Policy.{Policy}
 use Rattle.policy.proofs.Truth.{either, not-both, not-true, and-left, and-right, and-three, and-both, or-left, or-right, or-cases}
 use Rattle.policy.proofs.Below.{lt-or-ge}
 use Rattle.policy.proofs.Laws.{policy-laws}
-use Rattle.scheduler.specs.Word.{classOf, kindOf, bankOf, isOffer, requestOf, wordOf, classFits, bankAndKindFit, soundWord}
+use Rattle.scheduler.specs.Word.{classOf, kindOf, bankOf, requestOf, wordOf, classFits, bankAndKindFit, soundWord}
 use Rattle.scheduler.specs.Queue.{headOf, lengthOf, waitingAt, enqueue, dequeue, offerStatus, queuesAfter}
 use Rattle.scheduler.specs.Wire.{dueAt, sentAt, activateAt, offsetAllows, gapsMet, activated}
-use Rattle.scheduler.specs.Step.{turnsAt, Driven, canActivate, drive, answered}
+use Rattle.scheduler.specs.Step.{turnsAt, canActivate, drive, answered}
 use Rattle.scheduler.specs.Range.{zeros, emptyQueues, nothingInFlight, stateAtStart, freshState, zeroState, rightWord, activateInRange, inRange}
 use Rattle.scheduler.specs.Call.{fresh, offerOn, offer, silent, afterTick, tickOn, tick}
 use Rattle.scheduler.specs.declared.Request.{Request}
@@ -37,10 +36,10 @@ use Rattle.scheduler.proofs.Climbing.{on-true, on-false}
 use Rattle.scheduler.proofs.Ranged.{QueueRange, sound-bank, sound-kind}
 use Rattle.scheduler.proofs.Reading.{class-back, kind-back, bank-back, is-offer}
 use Rattle.scheduler.proofs.Waiting as waiting
-use Rattle.scheduler.proofs.Drives.{column-sent, head-sent, nothing-sent, drive-column, drive-nothing, drive-activate}
-use Rattle.scheduler.proofs.Pending.{Pends, pends-wider, pends-next, sent-none, pends-sent, pends-added, added-none}
+use Rattle.scheduler.proofs.Pending.{Later, Fits}
+use Rattle.scheduler.proofs.Flying.{outcome, columns-next, responses-next, activates-next}
 use Rattle.scheduler.proofs.Charged.{caps-within, turns-kept}
-use Rattle.scheduler.proofs.Whole.{QueuesRange, FlightRange, Whole, whole, in-range}
+use Rattle.scheduler.proofs.Whole.{QueuesRange, Before, FlightRange, Whole, whole, in-range}
 
 positive : (k : ℕ) → k ≢ 0 → 0 < k
 positive k h = lt-of-le-ne zero-le (λ e. h (sym e))
@@ -175,115 +174,68 @@ activate-fits t kind l =
     or-right (eqb (activateAt t kind) 0) (leb 2 (activateAt t kind) && leb (activateAt t kind / 2) (t + 1))
     (and-both (le-leb 2 (activateAt t kind) (omega arith)) (le-leb (activateAt t kind / 2) (t + 1) (omega (arith, l))))
 
--- what is due goes out, and the rest is a cycle nearer
-sent-next : (n t bound : ℕ) (pending : List ℕ) → length pending ≡ 32 → Pends n t (bound + 1) pending → Pends n (t + 1) bound (sentAt pending t)
-sent-next n t bound pending long h = pends-next n t bound (sentAt pending t) (sent-none t pending long) (pends-sent t pending long n (bound + 1) h)
-
-module _ (n : ℕ) (timing : Timing) (t : ℕ) (laws : TimingLaws timing) (f : Flight) (r : FlightRange n timing t f) where
-  column-small : timing .column < 32
-  column-small = omega (arith, laws .column-bounds .1, laws .response-bounds .1, laws .dead-bounds .1)
-
-  response-small : timing .response < 32
-  response-small = omega (arith, laws .response-bounds .1, laws .dead-bounds .1)
-
-  -- no activate, and the columns as given
-  rest-kept : (columns : List ℕ) → length columns ≡ 32 → Pends n (t + 1) (timing .column) columns → FlightRange n timing (t + 1) (answered t (record { columns = columns; responses = f .responses; banks = f .banks; last = f .last }))
-  unfolding answered sentAt
-  rest-kept columns long due =
-      record {
-        columns-long = long;
-        responses-long = length-set (f .responses) (t % 32) 0 ∙ r .responses-long;
-        banks-long = r .banks-long;
-        last-before = later-still t (f .last) (r .last-before);
-        banks-before = λ b l. later-still t (getD (f .banks) b 0) (r .banks-before b l);
-        columns-due = due;
-        responses-due = sent-next n t (timing .response) (f .responses) (r .responses-long) (pends-wider n t (timing .response) (f .responses) (r .responses-due));
-      }
-
-  -- an activate of a sound request
-  activated-kept : (w : ℕ) → soundWord n w ≡ true → dueAt (f .columns) t ≡ 0 → FlightRange n timing (t + 1) (answered t (activated timing (f .columns) (f .responses) (f .banks) w t))
-  unfolding answered activated sentAt
-  activated-kept w sound none =
-      let fits = activate-fits t (kindOf w) (sound-kind n w sound) in
-      let in-banks = subst (λ (k : ℕ). bankOf w < k) (sym (r .banks-long)) (sound-bank n w sound) in
-      record {
-        columns-long = length-set (f .columns) ((t + timing .column) % 32) w ∙ r .columns-long;
-        responses-long =
-            length-set (set (f .responses) ((t + timing .response) % 32) w) (t % 32) 0
-            ∙ length-set (f .responses) ((t + timing .response) % 32) w
-            ∙ r .responses-long;
-        banks-long = length-set (f .banks) (bankOf w) (activateAt t (kindOf w)) ∙ r .banks-long;
-        last-before = fits;
-        banks-before =
-            λ b l.
-            ⊎-elim
-            (λ e.
-            ap (activateInRange (t + 1))
-            (ap (λ (k : ℕ). getD (set (f .banks) (bankOf w) (activateAt t (kindOf w))) k 0) (eqb-true b (bankOf w) e)
-            ∙ getD-set-same (f .banks) (bankOf w) (activateAt t (kindOf w)) 0 in-banks)
-            ∙ fits)
-            (λ e.
-            ap (activateInRange (t + 1)) (getD-set-other (f .banks) (bankOf w) b (activateAt t (kindOf w)) 0 (eqb-false b (bankOf w) e))
-            ∙ later-still t (getD (f .banks) b 0) (r .banks-before b l))
-            (either (eqb b (bankOf w)));
-        columns-due =
-            pends-next n t (timing .column) (set (f .columns) ((t + timing .column) % 32) w)
-            (added-none t (f .columns) (r .columns-long) w (timing .column) (laws .column-bounds .0) column-small none)
-            (pends-added t (f .columns) (r .columns-long) w (timing .column) n column-small sound (r .columns-due));
-        responses-due =
-            sent-next n t (timing .response) (set (f .responses) ((t + timing .response) % 32) w)
-            (length-set (f .responses) ((t + timing .response) % 32) w ∙ r .responses-long)
-            (pends-added t (f .responses) (r .responses-long) w (timing .response) n response-small sound (r .responses-due));
-      }
-
--- ---- the second step
-
--- the queues, and what is in flight once the third step is done
-record Keeps (n : ℕ) (timing : Timing) (t : ℕ) (d : Driven) : Type 0 where
-  queues-kept : QueuesRange n (d .queues)
-  flight-kept : FlightRange n timing (t + 1) (answered t (d .flight))
+-- ---- the second step, and what is in flight once the third is done
 
 module _ (n : ℕ) (timing : Timing) (t owner : ℕ) (elided : Bool) (q : Queues) (f : Flight) (laws : TimingLaws timing) (small : owner < 16) (qr : QueuesRange n q) (fr : FlightRange n timing t f) where
   abbrev waits : Bool
   waits = not (eqb (lengthOf q owner) 0)
 
-  -- the head of a queue that is not empty is a sound request
-  head-sound : waits ≡ true → soundWord n (waitingAt q owner 0) ≡ true
-  unfolding rightWord
-  head-sound e =
-      and-left (soundWord n (waitingAt q owner 0)) (eqb (classOf (waitingAt q owner 0)) owner)
-      (qr .queue owner small .right 0 (positive (lengthOf q owner) (eqb-false (lengthOf q owner) 0 (not-true (eqb (lengthOf q owner) 0) e))))
+  abbrev goes : Type 0
+  goes = canActivate timing t owner elided q f ≡ true
 
-  drive-keeps : Keeps n timing t (drive timing t owner elided q f)
+  -- only a request that waits is activated
+  pub some-waits : goes → lengthOf q owner ≢ 0
   unfolding canActivate
-  drive-keeps =
-      ⊎-elim
-      (λ none.
-      let due = eqb-true (dueAt (f .columns) t) 0 none in
-      ⊎-elim
-      (λ goes.
-      let some = and-three (offsetAllows timing elided t) waits (gapsMet timing f (waitingAt q owner 0) t) goes .1 in
-      subst (Keeps n timing t) (sym (drive-activate timing t owner elided q f none goes))
-      (record {
-        queues-kept = dequeue-kept n q qr owner small (eqb-false (lengthOf q owner) 0 (not-true (eqb (lengthOf q owner) 0) some));
-        flight-kept = activated-kept n timing t laws f fr (waitingAt q owner 0) (head-sound some) due;
-      }))
-      (λ stays.
-      subst (Keeps n timing t) (sym (drive-nothing timing t owner elided q f none stays))
-      (record {
-        queues-kept = qr;
-        flight-kept = rest-kept n timing t laws f fr (f .columns) (fr .columns-long) (pends-next n t (timing .column) (f .columns) due (pends-wider n t (timing .column) (f .columns) (fr .columns-due)));
-      }))
-      (either (canActivate timing t owner elided q f)))
-      (λ due.
-      subst (Keeps n timing t) (sym (drive-column timing t owner elided q f due))
-      (record {
-        queues-kept = qr;
-        flight-kept =
-            rest-kept n timing t laws f fr (sentAt (f .columns) t) (sent-long t (f .columns) (fr .columns-long))
-            (sent-next n t (timing .column) (f .columns) (fr .columns-long) (pends-wider n t (timing .column) (f .columns) (fr .columns-due)));
-      }))
-      (either (eqb (dueAt (f .columns) t) 0))
+  some-waits e =
+      let some = and-three (offsetAllows timing elided t) waits (gapsMet timing f (waitingAt q owner 0) t) e .1 in
+      eqb-false (lengthOf q owner) 0 (not-true (eqb (lengthOf q owner) 0) some)
+
+  -- and it is one of the owner's, and sound
+  pub head-right : goes → rightWord n owner (waitingAt q owner 0) ≡ true
+  head-right e = qr .queue owner small .right 0 (positive (lengthOf q owner) (some-waits e))
+
+  head-sound : goes → soundWord n (waitingAt q owner 0) ≡ true
+  unfolding rightWord
+  head-sound e = and-left (soundWord n (waitingAt q owner 0)) (eqb (classOf (waitingAt q owner 0)) owner) (head-right e)
+
+  queues-kept : QueuesRange n (drive timing t owner elided q f .queues)
+  queues-kept =
+      outcome timing t owner elided q f (λ d. QueuesRange n (d .queues)) (λ due. qr) (λ due e. dequeue-kept n q qr owner small (some-waits e)) (λ due stays. qr)
+
+  -- a word due in fewer cycles than a bound is due a cycle later in fewer still, and a new one in its delay
+  nearer : (bound d w : ℕ) → Fits n bound (d + 1) w → Fits n bound d w
+  nearer bound d w h = (omega (arith, h .0), h .1)
+
+  new-fits : (delay : ℕ) → goes → Later (Fits n delay) delay (waitingAt q owner 0)
+  new-fits delay e d same = (omega (arith, same), head-sound e)
+
+  flight-kept : FlightRange n timing (t + 1) (answered t (drive timing t owner elided q f .flight))
+  unfolding answered activated
+  flight-kept =
+      let w = waitingAt q owner 0 in
+      record {
+        columns-long =
+            outcome timing t owner elided q f (λ d. length (d .flight .columns) ≡ 32) (λ due. sent-long t (f .columns) (fr .columns-long))
+            (λ due e. length-set (f .columns) ((t + timing .column) % 32) w ∙ fr .columns-long)
+            (λ due stays. fr .columns-long);
+        responses-long =
+            sent-long t (drive timing t owner elided q f .flight .responses)
+            (outcome timing t owner elided q f (λ d. length (d .flight .responses) ≡ 32) (λ due. fr .responses-long)
+            (λ due e. length-set (f .responses) ((t + timing .response) % 32) w ∙ fr .responses-long)
+            (λ due stays. fr .responses-long));
+        banks-long =
+            outcome timing t owner elided q f (λ d. length (d .flight .banks) ≡ 8) (λ due. fr .banks-long)
+            (λ due e. length-set (f .banks) (bankOf w) (activateAt t (kindOf w)) ∙ fr .banks-long)
+            (λ due stays. fr .banks-long);
+        activates-before =
+            activates-next timing t owner elided q f (Before t) (Before (t + 1)) (later-still t) (fr .banks-long)
+            (λ e. (sound-bank n w (head-sound e), activate-fits t (kindOf w) (sound-kind n w (head-sound e))))
+            (fr .activates-before);
+        columns-due =
+            columns-next timing laws t owner elided q f (Fits n (timing .column)) (Fits n (timing .column)) (nearer (timing .column)) (fr .columns-long) (new-fits (timing .column)) (fr .columns-due);
+        responses-due =
+            responses-next timing laws t owner elided q f (Fits n (timing .response)) (Fits n (timing .response)) (nearer (timing .response)) (fr .responses-long) (new-fits (timing .response)) (fr .responses-due);
+      }
 
 -- ---- the calls
 
@@ -294,16 +246,14 @@ tick-whole p s w left =
     let turns = turnsAt p t (s .queues .lengths) (s .turns) in
     let laws = policy-laws p (w .fit) in
     let kept = turns-kept p (w .fit) t (s .queues .lengths) (s .turns) (w .turns-fit) in
-    let driven =
-    drive-keeps (p .classes) (p .timing) t (turns .owner) (turns .elided) (s .queues) (s .flight) (laws .timed) (lt-of-lt-of-le (kept .owner-class) (laws .order .classes-few .1)) (w .queues-fit) (w .flight-fit)
-    in
+    let small = lt-of-lt-of-le (kept .owner-class) (laws .order .classes-few .1) in
     record {
       fit = w .fit;
       same-count = w .same-count;
       cycle-bound = omega (arith, left);
-      queues-fit = driven .queues-kept;
+      queues-fit = queues-kept (p .classes) (p .timing) t (turns .owner) (turns .elided) (s .queues) (s .flight) (laws .timed) small (w .queues-fit) (w .flight-fit);
       turns-fit = kept;
-      flight-fit = driven .flight-kept;
+      flight-fit = flight-kept (p .classes) (p .timing) t (turns .owner) (turns .elided) (s .queues) (s .flight) (laws .timed) small (w .queues-fit) (w .flight-fit);
     }
 
 -- the word of a request that 9 and 10 do not refuse is right for its class's queue
@@ -373,8 +323,7 @@ fresh-whole p given =
             columns-long = refl;
             responses-long = refl;
             banks-long = refl;
-            last-before = never 0;
-            banks-before = λ b l. ap (activateInRange 0) (zero-at 8 b) ∙ never 0;
+            activates-before = record { of-all = never 0; of-bank = λ b l. ap (activateInRange 0) (zero-at 8 b) ∙ never 0 };
             columns-due = λ d l. inl (none-due (0 + d));
             responses-due = λ d l. inl (none-due (0 + d));
           };

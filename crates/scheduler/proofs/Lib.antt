@@ -16,6 +16,8 @@ pub mod Ranged
 pub mod Elision
 -- of what is pending: it stays in range as cycles go by
 pub mod Pending
+-- of what a tick does to what is in flight
+pub mod Flying
 -- of a turn's start: owner, pointers and turns left stay in range
 pub mod Charged
 -- of every state in range: its parts, and back

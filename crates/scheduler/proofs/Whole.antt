@@ -3,26 +3,25 @@
 use mathlib.Core.Path.{_≡_}
 use mathlib.Core.Logic.{⊎-elim}
 use mathlib.Core.Bool.{Bool, true, _&&_, _||_}
-use mathlib.Core.List.{List}
 use Prim.Native.Nat.{ℕ, _≤_, _<_}
 use borrow.Author.Tests.{eqb-true, eq-eqb, leb-true, le-leb, lt-ltb}
-use lib.Dec.{leb, ltb, eqb}
+use lib.Dec.{leb, eqb}
 use lib.ListN.{length, getD}
 use Rattle.policy.specs.Below.{every}
 use Rattle.policy.specs.Policy.{coverCount, cap}
 use Rattle.policy.specs.Policy.{inRange as policyInRange}
 use Rattle.policy.specs.declared.Timing.{Timing}
 use Rattle.policy.specs.declared.Policy.{Policy}
-use Rattle.policy.proofs.Truth.{either, and-left, and-right, and-four, and-both, or-left, or-right}
+use Rattle.policy.proofs.Truth.{and-left, and-right, and-four, and-both, or-left, or-right}
 use Rattle.policy.proofs.Below.{lt-or-ge, every-at, every-all}
 use Rattle.scheduler.specs.Queue.{headOf, lengthOf, place, waitingAt}
 use Rattle.scheduler.specs.Range.{rightWord, ringInRange, queueInRange, turnsInRange, activateInRange, pendingInRange, countsInRange, flightInRange, shaped, stateInRange, inRange}
 use Rattle.scheduler.specs.declared.Queues.{Queues}
-use Rattle.scheduler.specs.declared.Turns.{Turns}
 use Rattle.scheduler.specs.declared.Flight.{Flight}
 use Rattle.scheduler.specs.declared.State.{State}
-use Rattle.scheduler.proofs.Ranged.{QueueRange, Ranged, ranged}
-use Rattle.scheduler.proofs.Pending.{Pends, pends, pends-back}
+use Rattle.scheduler.proofs.Ranged.{QueueRange, ranged}
+use Rattle.scheduler.proofs.Pending.{Each, Fits, pends, pends-back}
+use Rattle.scheduler.proofs.Flying.{Activates}
 use Rattle.scheduler.proofs.Charged.{TurnsRange}
 
 pub record QueuesRange (n : ℕ) (q : Queues) : Type 0 where
@@ -31,14 +30,17 @@ pub record QueuesRange (n : ℕ) (q : Queues) : Type 0 where
   pub lengths-long : length (q .lengths) ≡ 16
   pub queue : (c : ℕ) → c < 16 → QueueRange n q c
 
+-- "a last activate not before the cycle" is refused
+abbrev pub Before : ℕ → ℕ → Type 0
+Before t last = activateInRange t last ≡ true
+
 pub record FlightRange (n : ℕ) (timing : Timing) (t : ℕ) (f : Flight) : Type 0 where
   pub columns-long : length (f .columns) ≡ 32
   pub responses-long : length (f .responses) ≡ 32
   pub banks-long : length (f .banks) ≡ 8
-  pub last-before : activateInRange t (f .last) ≡ true
-  pub banks-before : (b : ℕ) → b < 8 → activateInRange t (getD (f .banks) b 0) ≡ true
-  pub columns-due : Pends n t (timing .column) (f .columns)
-  pub responses-due : Pends n t (timing .response) (f .responses)
+  pub activates-before : Activates (Before t) f
+  pub columns-due : Each (Fits n (timing .column)) t (f .columns)
+  pub responses-due : Each (Fits n (timing .response)) t (f .responses)
 
 pub record Whole (p : Policy) (s : State) : Type 0 where
   pub fit : policyInRange p ≡ true
@@ -116,8 +118,7 @@ whole p s e =
             columns-long = eqb-true (length (s .flight .columns)) 32 (late .1);
             responses-long = eqb-true (length (s .flight .responses)) 32 (late .2);
             banks-long = eqb-true (length (s .flight .banks)) 8 (late .3);
-            last-before = flight .0;
-            banks-before = every-at (λ b. activateInRange (s .cycle) (getD (s .flight .banks) b 0)) 8 (flight .1);
+            activates-before = record { of-all = flight .0; of-bank = every-at (λ b. activateInRange (s .cycle) (getD (s .flight .banks) b 0)) 8 (flight .1) };
             columns-due = pends (p .classes) (s .cycle) (p .timing .column) (s .flight .columns) (flight .2);
             responses-due = pends (p .classes) (s .cycle) (p .timing .response) (s .flight .responses) (flight .3);
           };
@@ -161,7 +162,7 @@ in-range p s w =
     in
     let flight =
     and-both
-    (and-both (and-both (f .last-before) (every-all (λ b. activateInRange (s .cycle) (getD (s .flight .banks) b 0)) 8 (f .banks-before)))
+    (and-both (and-both (f .activates-before .of-all) (every-all (λ b. activateInRange (s .cycle) (getD (s .flight .banks) b 0)) 8 (f .activates-before .of-bank)))
     (pends-back (p .classes) (s .cycle) (p .timing .column) (s .flight .columns) (f .columns-due)))
     (pends-back (p .classes) (s .cycle) (p .timing .response) (s .flight .responses) (f .responses-due))
     in

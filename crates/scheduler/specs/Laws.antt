@@ -3,7 +3,7 @@ use mathlib.Core.Path.{_≡_}
 use mathlib.Core.Bool.{true}
 use mathlib.Core.List.{List}
 use Prim.Native.Nat.{ℕ, _+_, _<_}
-use Rattle.policy.specs.Policy.{flows, least}
+use Rattle.policy.specs.Policy.{flows}
 use Rattle.policy.specs.declared.Policy.{Policy}
 use Rattle.scheduler.specs.Traversal.{tryClass}
 use Rattle.scheduler.specs.Lookahead.{elides}

@@ -3,7 +3,7 @@
 use libc::STDOUT_FILENO;
 
 // Document 01's file: class 0 below class 1, E = 3, minimums 0 and 2.
-fn printed() -> [u8; 34] {
+pub fn printed() -> [u8; 34] {
     [
         3,
         1,
@@ -204,11 +204,11 @@ fn sixteen() -> [u8; 76] {
     ]
 }
 
-fn words(text: &[u8]) {
+pub fn words(text: &[u8]) {
     io::write_all(STDOUT_FILENO, text);
 }
 
-fn number(n: u64) {
+pub fn number(n: u64) {
     io::print_decimal(STDOUT_FILENO, n);
 }
 

@@ -1,11 +1,29 @@
 // The cases that document 01 says are to be run. Each prints a line with its name and the answer. The lines are held against the stored output, and the Rust
 // model's tests hold the stored output against the model's own answers.
 
+mod calls;
+mod clauses;
 mod files;
+mod same;
 
 fn main() {
     files::examples();
     files::sizes();
     files::every_cut();
     files::every_change();
+    calls::bounds();
+    calls::order();
+    calls::queue_limit();
+    calls::last_cycles();
+    calls::chain();
+    calls::diamond();
+    clauses::counts();
+    clauses::turns();
+    clauses::waiting();
+    clauses::activates();
+    clauses::columns();
+    clauses::responses();
+    clauses::policies();
+    clauses::inside();
+    clauses::stored();
 }

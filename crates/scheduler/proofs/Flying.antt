@@ -16,11 +16,12 @@ use Rattle.policy.proofs.Truth.{either}
 use Rattle.scheduler.specs.Word.{kindOf, bankOf}
 use Rattle.scheduler.specs.Queue.{waitingAt}
 use Rattle.scheduler.specs.Wire.{dueAt, sentAt, activateAt, activated}
+use Rattle.scheduler.specs.History.{Each, Activates}
 use Rattle.scheduler.specs.Step.{Driven, canActivate, drive, answered}
 use Rattle.scheduler.specs.declared.Queues.{Queues}
 use Rattle.scheduler.specs.declared.Flight.{Flight}
 use Rattle.scheduler.proofs.Drives.{column-sent, head-sent, nothing-sent, drive-column, drive-nothing, drive-activate}
-use Rattle.scheduler.proofs.Pending.{Each, Later, each-map, each-next, sent-none, each-sent, each-added, added-none}
+use Rattle.scheduler.proofs.Pending.{Later, each-map, each-next, sent-none, each-sent, each-added, added-none}
 
 -- any outcome of the second step, from what holds of each of the three
 pub outcome : (timing : Timing) (t owner : ℕ) (elided : Bool) (q : Queues) (f : Flight) (P : Driven → Type 0) → ((eqb (dueAt (f .columns) t) 0 ≡ false) → P (column-sent timing t owner elided q f)) → ((dueAt (f .columns) t ≡ 0) → canActivate timing t owner elided q f ≡ true → P (head-sent timing t owner elided q f)) → ((dueAt (f .columns) t ≡ 0) → canActivate timing t owner elided q f ≡ false → P (nothing-sent timing t owner elided q f)) → P (drive timing t owner elided q f)
@@ -72,10 +73,6 @@ module _ (timing : Timing) (laws : TimingLaws timing) (t owner : ℕ) (elided : 
       (λ due stays. sent-next (f .responses) long (later (f .responses) h))
 
 -- ---- the last activates, of all and of each bank
-
-pub record Activates (P : ℕ → Type 0) (f : Flight) : Type 0 where
-  pub of-all : P (f .last)
-  pub of-bank : (b : ℕ) → b < 8 → P (getD (f .banks) b 0)
 
 pub activates-next : (timing : Timing) (t owner : ℕ) (elided : Bool) (q : Queues) (f : Flight) (P Q : ℕ → Type 0) → ((x : ℕ) → P x → Q x) → length (f .banks) ≡ 8 → (canActivate timing t owner elided q f ≡ true → (bankOf (waitingAt q owner 0) < 8) × Q (activateAt t (kindOf (waitingAt q owner 0)))) → Activates P f → Activates Q (answered t (drive timing t owner elided q f .flight))
 unfolding activated answered

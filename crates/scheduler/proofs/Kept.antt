@@ -56,13 +56,13 @@ sent-long : (t : ℕ) (pending : List ℕ) → length pending ≡ 32 → length 
 unfolding sentAt
 sent-long t pending long = length-set pending (t % 32) 0 ∙ long
 
-zero-at : (n k : ℕ) → getD (zeros n) k 0 ≡ 0
+pub zero-at : (n k : ℕ) → getD (zeros n) k 0 ≡ 0
 unfolding zeros
 zero-at zero k = refl
 zero-at (suc n) zero = refl
 zero-at (suc n) (suc k) = zero-at n k
 
-none-due : (t : ℕ) → dueAt (zeros 32) t ≡ 0
+pub none-due : (t : ℕ) → dueAt (zeros 32) t ≡ 0
 unfolding dueAt
 none-due t = zero-at 32 (t % 32)
 
@@ -303,7 +303,7 @@ offer-whole p s r w =
       flight-fit = w .flight-fit;
     }
 
-fresh-whole : (p : Policy) → policyInRange p ≡ true → Whole p (freshState p)
+pub fresh-whole : (p : Policy) → policyInRange p ≡ true → Whole p (freshState p)
 unfolding freshState stateAtStart emptyQueues nothingInFlight zeros
 fresh-whole p given =
     let laws = policy-laws p given in

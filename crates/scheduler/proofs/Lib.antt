@@ -24,3 +24,11 @@ pub mod Charged
 pub mod Whole
 -- of every call: it keeps a state in range
 pub mod Kept
+-- of turns and cycles
+pub mod Calendar
+-- of every state reached from fresh
+pub mod Steady
+-- all of them, as `specs/Laws.antt` states them
+pub mod Laws
+-- of the definitions: document 01's worked turns
+pub mod Worked

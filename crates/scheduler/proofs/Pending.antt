@@ -16,6 +16,7 @@ use Rattle.policy.proofs.Below.{lt-or-ge, every-at, every-all}
 use Rattle.scheduler.specs.Word.{soundWord}
 use Rattle.scheduler.specs.Wire.{dueAt, sentAt}
 use Rattle.scheduler.specs.Range.{pendingInRange}
+use Rattle.scheduler.specs.History.{Each}
 
 -- 32 cycles on is the same place
 wraps : (t d : ℕ) → d ≡ 31 → (t + 1 + d) % 32 ≡ t % 32
@@ -30,9 +31,6 @@ apart : (t delay : ℕ) → 1 ≤ delay → delay < 32 → t % 32 ≡ (t + delay
 apart t delay some small e = let none : delay ≡ 0 = omega (arith, small, e) in not-suc-le-zero {n = 0} (subst (λ (k : ℕ). 1 ≤ k) none some)
 
 -- ---- what holds of each word that is due, d cycles after the next tick
-
-abbrev pub Each : (ℕ → ℕ → Type 0) → ℕ → List ℕ → Type 0
-Each P t pending = (d : ℕ) → d < 32 → (dueAt pending (t + d) ≡ 0) ⊎ P d (dueAt pending (t + d))
 
 -- it will hold a cycle later
 abbrev pub Later : (ℕ → ℕ → Type 0) → ℕ → ℕ → Type 0

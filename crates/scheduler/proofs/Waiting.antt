@@ -1,13 +1,17 @@
 -- What an enqueue and a dequeue do to the waiting requests of each class.
 -- Assumes nothing.
-use mathlib.Core.Path.{_≡_, refl, sym, ap, _∙_, subst}
+use mathlib.Core.Path.{_≡_, refl, sym, ap, ap₂, _∙_, subst}
 use mathlib.Core.Logic.{_≢_}
-use Prim.Native.Nat.{ℕ, _+_, _-_, _%_, _<_}
+use Prim.Native.Nat.{ℕ, zero, suc, _+_, _-_, _%_, _<_, zero-le}
 use native.Mathlib.Nat.{lt-irrefl, lt-trans}
 use native.Mathlib.Omega.{arith}
+use mathlib.Core.List.{List, [], _∷_, _++_}
+use lib.Arith.{lt-of-le-ne}
 use lib.ListN.{length, getD}
 use lib.Seq.{getD-set-same, getD-set-other}
-use Rattle.scheduler.specs.Queue.{headOf, lengthOf, place, waitingAt, enqueue, dequeue}
+use Rattle.policy.specs.Below.{listOf}
+use Rattle.policy.proofs.Below.{listOf-same}
+use Rattle.scheduler.specs.Queue.{headOf, lengthOf, place, waitingAt, waiting, enqueue, dequeue}
 use Rattle.scheduler.specs.declared.Queues.{Queues}
 
 -- ---- places
@@ -86,3 +90,51 @@ module _ (q : Queues) (c : ℕ) where
   pub dequeue-apart : (d k : ℕ) → d ≢ c → waitingAt (dequeue q c) d k ≡ waitingAt q d k
   unfolding waitingAt dequeue
   dequeue-apart d k h = ap (λ (x : ℕ). getD (q .slots) (place d x k) 0) (dequeue-else-head d h)
+
+-- ---- the whole queue, oldest first
+
+listOf-more : (g : ℕ → ℕ) (n : ℕ) → listOf (suc n) g ≡ listOf n g ++ (g n ∷ [])
+unfolding listOf
+listOf-more g zero = refl
+listOf-more g (suc n) = ap (λ (l : List ℕ). g zero ∷ l) (listOf-more (λ i. g (suc i)) n)
+
+module _ (q : Queues) (c : ℕ) (small : c < 16) (slots-long : length (q .slots) ≡ 128) (heads-long : length (q .heads) ≡ 16) (lengths-long : length (q .lengths) ≡ 16) where
+  in-lengths : c < length (q .lengths)
+  in-lengths = subst (λ (k : ℕ). c < k) (sym lengths-long) small
+
+  in-heads : c < length (q .heads)
+  in-heads = subst (λ (k : ℕ). c < k) (sym heads-long) small
+
+  pub enqueue-end : (w : ℕ) → lengthOf q c < 8 → waiting (enqueue q c w) c ≡ waiting q c ++ (w ∷ [])
+  unfolding waiting
+  enqueue-end w room =
+      let more : lengthOf (enqueue q c w) c ≡ suc (lengthOf q c) = enqueue-longer q c w in-lengths ∙ omega arith in
+      ap (λ (n : ℕ). listOf n (waitingAt (enqueue q c w) c)) more
+      ∙ listOf-more (waitingAt (enqueue q c w) c) (lengthOf q c)
+      ∙ ap₂ (λ (l : List ℕ) (x : ℕ). l ++ (x ∷ []))
+      (listOf-same (waitingAt (enqueue q c w) c) (waitingAt q c) (lengthOf q c) (λ i l. enqueue-before q c w i l room))
+      (enqueue-last q c w small slots-long)
+
+  pub dequeue-first : ((lengthOf q c ≡ 0) → ⊥) → waiting q c ≡ waitingAt q c 0 ∷ waiting (dequeue q c) c
+  unfolding waiting listOf
+  dequeue-first some =
+      let less = dequeue-shorter q c in-lengths in
+      let whole : lengthOf q c ≡ suc (lengthOf (dequeue q c) c) = omega (arith, less, lt-of-le-ne zero-le (λ e. some (sym e))) in
+      ap (λ (n : ℕ). listOf n (waitingAt q c)) whole
+      ∙ ap (λ (l : List ℕ). waitingAt q c 0 ∷ l)
+      (listOf-same (λ i. waitingAt q c (suc i)) (waitingAt (dequeue q c) c) (lengthOf (dequeue q c) c)
+      (λ i l. let step : suc i ≡ i + 1 = omega arith in ap (waitingAt q c) step ∙ sym (dequeue-next q c in-heads i)))
+
+-- other classes' queues stay as they are
+module _ (q : Queues) (c d : ℕ) (apart : d ≢ c) where
+  pub enqueue-beside : (w : ℕ) → waiting (enqueue q c w) d ≡ waiting q d
+  unfolding waiting
+  enqueue-beside w =
+      ap (λ (n : ℕ). listOf n (waitingAt (enqueue q c w) d)) (enqueue-else q c w d apart)
+      ∙ listOf-same (waitingAt (enqueue q c w) d) (waitingAt q d) (lengthOf q d) (λ i l. enqueue-apart q c w d i apart)
+
+  pub dequeue-beside : waiting (dequeue q c) d ≡ waiting q d
+  unfolding waiting
+  dequeue-beside =
+      ap (λ (n : ℕ). listOf n (waitingAt (dequeue q c) d)) (dequeue-else q c d apart)
+      ∙ listOf-same (waitingAt (dequeue q c) d) (waitingAt q d) (lengthOf q d) (λ i l. dequeue-apart q c d i apart)

@@ -16,12 +16,12 @@ use Rattle.policy.proofs.Truth.{and-left, and-right, and-four, and-both, or-lef
 use Rattle.policy.proofs.Below.{lt-or-ge, every-at, every-all}
 use Rattle.scheduler.specs.Queue.{headOf, lengthOf, place, waitingAt}
 use Rattle.scheduler.specs.Range.{rightWord, ringInRange, queueInRange, turnsInRange, activateInRange, pendingInRange, countsInRange, flightInRange, shaped, stateInRange, inRange}
+use Rattle.scheduler.specs.History.{Each, Activates}
 use Rattle.scheduler.specs.declared.Queues.{Queues}
 use Rattle.scheduler.specs.declared.Flight.{Flight}
 use Rattle.scheduler.specs.declared.State.{State}
 use Rattle.scheduler.proofs.Ranged.{QueueRange, ranged}
-use Rattle.scheduler.proofs.Pending.{Each, Fits, pends, pends-back}
-use Rattle.scheduler.proofs.Flying.{Activates}
+use Rattle.scheduler.proofs.Pending.{Fits, pends, pends-back}
 use Rattle.scheduler.proofs.Charged.{TurnsRange}
 
 pub record QueuesRange (n : ℕ) (q : Queues) : Type 0 where

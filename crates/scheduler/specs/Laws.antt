@@ -1,13 +1,21 @@
--- What holds of every policy in range, whatever the state: the laws that noninterference rests on. Each is a statement; `proofs/` has a module of the same name for it.
+-- The laws that noninterference rests on. Each is a statement; `proofs/Laws.antt` proves `SchedulerLaws p` of every policy in range.
 use mathlib.Core.Path.{_≡_}
 use mathlib.Core.Bool.{true}
-use mathlib.Core.List.{List}
+use mathlib.Core.List.{List, [], _∷_, _++_}
 use Prim.Native.Nat.{ℕ, _+_, _<_}
 use Rattle.policy.specs.Policy.{flows}
 use Rattle.policy.specs.declared.Policy.{Policy}
+use Rattle.scheduler.specs.Word.{isOffer, requestOf, wordOf}
+use Rattle.scheduler.specs.Queue.{lengthOf, waitingAt, waiting, enqueue, dequeue}
 use Rattle.scheduler.specs.Traversal.{tryClass}
 use Rattle.scheduler.specs.Lookahead.{elides}
 use Rattle.scheduler.specs.Step.{startTurn}
+use Rattle.scheduler.specs.Range.{inRange}
+use Rattle.scheduler.specs.Call.{fresh, offer, tick}
+use Rattle.scheduler.specs.History.{FromFresh, Held}
+use Rattle.scheduler.specs.declared.Request.{Request}
+use Rattle.scheduler.specs.declared.Queues.{Queues}
+use Rattle.scheduler.specs.declared.State.{State}
 
 -- the traversal ends at a class to which the class where it starts may flow
 abbrev pub Ascends : Policy → Type 0
@@ -19,3 +27,30 @@ abbrev pub Elision : Policy → Type 0
 Elision p =
     (k : ℕ) (left pointers : List ℕ) (owner : ℕ) → owner < p .classes → elides p k left pointers owner ≡ true → (lengths : List ℕ)
     → flows p owner (startTurn p (k + 1) lengths left pointers .owner) ≡ true
+
+-- every public call keeps a state in range
+pub record KeepsRange (p : Policy) : Type 0 where
+  pub fresh-in-range : inRange p (fresh p .state) ≡ true
+  pub offer-in-range : (s : State) (r : Request) → inRange p s ≡ true → inRange p (offer p s r .state) ≡ true
+  pub tick-in-range : (s : State) → inRange p s ≡ true → inRange p (tick p s .state) ≡ true
+
+-- a request and its word say the same
+pub record WordLaws : Type 0 where
+  pub word-back : (w : ℕ) → isOffer w ≡ true → wordOf (requestOf w) ≡ w
+  pub request-back : (r : Request) → r .class < 32 → r .kind < 4 → r .bank < 16 → r .tag < 65536 → requestOf (wordOf r) ≡ r
+
+-- the waiting requests of a class: an enqueue puts one at the end, a dequeue takes the first, and other classes' stay
+pub record WaitingLaws (q : Queues) (c : ℕ) : Type 0 where
+  pub at-end : (w : ℕ) → lengthOf q c < 8 → waiting (enqueue q c w) c ≡ waiting q c ++ (w ∷ [])
+  pub from-front : ((lengthOf q c ≡ 0) → ⊥) → waiting q c ≡ waitingAt q c 0 ∷ waiting (dequeue q c) c
+  pub enqueue-beside : (d w : ℕ) → ((d ≡ c) → ⊥) → waiting (enqueue q c w) d ≡ waiting q d
+  pub dequeue-beside : (d : ℕ) → ((d ≡ c) → ⊥) → waiting (dequeue q c) d ≡ waiting q d
+
+-- the laws of every policy in range
+pub record SchedulerLaws (p : Policy) : Type 0 where
+  pub words : WordLaws
+  pub queueing : (s : State) → inRange p s ≡ true → (c : ℕ) → c < 16 → WaitingLaws (s .queues) c
+  pub keeping : KeepsRange p
+  pub ascending : Ascends p
+  pub eliding : Elision p
+  pub reached : (s : State) → FromFresh p s → Held p s

@@ -20,5 +20,9 @@ pub mod Step
 pub mod Range
 -- the answers of the public calls
 pub mod Call
+-- "Worked turns"
+pub mod Worked
+-- the states reached from fresh, and what holds of them
+pub mod History
 -- the laws that noninterference rests on
 pub mod Laws

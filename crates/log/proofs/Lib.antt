@@ -1,0 +1,4 @@
+-- Laws that belong to no one function.
+
+-- of lists of calls
+pub mod Laws

@@ -86,7 +86,7 @@ module _ (p : Policy) (given : inRange p ≡ true) where
   unfolding cap
   caps-within = record { sixteen = policy-laws p given .capped .sixteen; within = λ j l. le-refl (getD (p .caps) j 0) }
 
-  start-within : (k : ℕ) (left : List ℕ) → Within (cap p) left → Within (cap p) (leftAtStart p k left)
+  pub start-within : (k : ℕ) (left : List ℕ) → Within (cap p) left → Within (cap p) (leftAtStart p k left)
   unfolding leftAtStart
   start-within k left w = either-within (cap p) (eqb (k % p .epoch) 0) (p .caps) left caps-within w
 

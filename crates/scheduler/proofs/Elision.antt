@@ -31,7 +31,7 @@ or-fails false true e f = absurd (not-both refl f)
 
 module _ (p : Policy) (given : inRange p ≡ true) where
   -- a class may flow to the cover that its pointer names
-  to-cover : (pointers : List ℕ) (c : ℕ) → ((getD (p .covers) c 0 ≡ 0) → ⊥) → flows p c (named (p .covers) pointers c) ≡ true
+  pub to-cover : (pointers : List ℕ) (c : ℕ) → ((getD (p .covers) c 0 ≡ 0) → ⊥) → flows p c (named (p .covers) pointers c) ≡ true
   unfolding coversOf flows strictly
   to-cover pointers c full =
       strictly-flows (p .rows) c (named (p .covers) pointers c)

@@ -24,6 +24,7 @@ pub struct Request {
     // 0 is a read, 1 a write.
     pub kind: u32,
     pub bank: u32,
+    // 16 bits. Of a greater number, which document 01 leaves open, the low 16 bits are taken.
     pub tag: u32,
 }
 

@@ -1,0 +1,4 @@
+-- The definitions by which two runs are compared, in reading order.
+
+-- the classes that are looked at, and two states' turns seen by them
+pub mod Low

@@ -2,3 +2,7 @@
 
 -- of the traversal and the lookahead in two runs, and so of a turn's start
 pub mod Walks
+-- of offers in two runs, or in one of them
+pub mod Offers
+-- of what is in flight in two runs, and of the gaps
+pub mod Flights

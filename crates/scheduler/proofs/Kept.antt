@@ -44,11 +44,11 @@ use Rattle.scheduler.proofs.Whole.{QueuesRange, Before, FlightRange, Wh
 positive : (k : ℕ) → k ≢ 0 → 0 < k
 positive k h = lt-of-le-ne zero-le (λ e. h (sym e))
 
-below-sixteen : (n : ℕ) (r : Request) → n ≤ 16 → classFits n r ≡ true → r .class < 16
+pub below-sixteen : (n : ℕ) (r : Request) → n ≤ 16 → classFits n r ≡ true → r .class < 16
 unfolding classFits
 below-sixteen n r few e = lt-of-lt-of-le (ltb-true (r .class) n e) few
 
-room : (q : Queues) (c : ℕ) → ltb (getD (q .lengths) c 0) 8 ≡ true → lengthOf q c < 8
+pub room : (q : Queues) (c : ℕ) → ltb (getD (q .lengths) c 0) 8 ≡ true → lengthOf q c < 8
 unfolding lengthOf
 room q c e = ltb-true (getD (q .lengths) c 0) 8 e
 
@@ -273,7 +273,7 @@ offered-right n r few c b =
     (eq-eqb (classOf (wordOf r)) (r .class) same-class)
 
 -- an offer is taken only if none of 9, 10 and 11 refuses it
-taken : (a b c : Bool) → eqb (cond a (cond b (cond c 0 11) 10) 9) 0 ≡ true → (a ≡ true) × (b ≡ true) × (c ≡ true)
+pub taken : (a b c : Bool) → eqb (cond a (cond b (cond c 0 11) 10) 9) 0 ≡ true → (a ≡ true) × (b ≡ true) × (c ≡ true)
 taken true true true e = (refl, refl, refl)
 taken true true false e = absurd (not-both e refl)
 taken true false c e = absurd (not-both e refl)

@@ -6,3 +6,7 @@ pub mod Walks
 pub mod Offers
 -- of what is in flight in two runs, and of the gaps
 pub mod Flights
+-- of the first step of a tick in two runs
+pub mod Starts
+-- of the second step at a high owner
+pub mod Quiet

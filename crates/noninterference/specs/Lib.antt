@@ -2,3 +2,5 @@
 
 -- the classes that are looked at, and two states' turns seen by them
 pub mod Low
+-- two states that the low classes cannot tell apart
+pub mod Alike

@@ -10,3 +10,5 @@ pub mod Flights
 pub mod Starts
 -- of the second step at a high owner
 pub mod Quiet
+-- of the second step at the same low owner
+pub mod Shared

@@ -39,7 +39,7 @@ use Rattle.scheduler.proofs.Kept.{zero-at, none-due, head-right, fresh-
 
 -- ---- gaps
 
-gap-later : (last gap t u : ℕ) → t ≤ u → gapMet last gap t ≡ true → gapMet last gap u ≡ true
+pub gap-later : (last gap t u : ℕ) → t ≤ u → gapMet last gap t ≡ true → gapMet last gap u ≡ true
 unfolding gapMet
 gap-later last gap t u l e =
     ⊎-elim
@@ -88,11 +88,11 @@ module _ (p : Policy) (given : policyInRange p ≡ true) where
 
   -- ---- between the first step of a tick and the second
 
-  record Midway (t : ℕ) (turns : Turns) (f : Flight) : Type 0 where
-    flowing : InFlight (Flowing (turns .owner)) t f
-    stands : turns .elided ≡ true → elides p (turnNumber p t) (turns .left) (turns .pointers) (turns .owner) ≡ true
-    drained : turns .elided ≡ false → InFlight (λ d w. d < untilTurn p (t + 1) + 1) t f
-    rested : turns .elided ≡ false → Activates (λ last. gapMet last dead (t + 1 + untilTurn p (t + 1)) ≡ true) f
+  pub record Midway (t : ℕ) (turns : Turns) (f : Flight) : Type 0 where
+    pub flowing : InFlight (Flowing (turns .owner)) t f
+    pub stands : turns .elided ≡ true → elides p (turnNumber p t) (turns .left) (turns .pointers) (turns .owner) ≡ true
+    pub drained : turns .elided ≡ false → InFlight (λ d w. d < untilTurn p (t + 1) + 1) t f
+    pub rested : turns .elided ≡ false → Activates (λ last. gapMet last dead (t + 1 + untilTurn p (t + 1)) ≡ true) f
 
   module _ (s : State) (h : Held p s) where
     abbrev t : ℕ
@@ -160,7 +160,7 @@ module _ (p : Policy) (given : policyInRange p ≡ true) where
     abbrev turns : Turns
     turns = turnsAt p t (s .queues .lengths) (s .turns)
 
-    midway : Midway t turns (s .flight)
+    pub midway : Midway t turns (s .flight)
     unfolding turnsAt
     midway =
         ⊎-elim

@@ -12,3 +12,7 @@ pub mod Starts
 pub mod Quiet
 -- of the second step at the same low owner
 pub mod Shared
+-- of ticks in two runs
+pub mod Ticks
+-- of single calls in two runs
+pub mod Calls

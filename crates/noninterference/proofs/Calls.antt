@@ -1,0 +1,96 @@
+-- Single calls in two runs: the same call keeps two states alike, and an offer of a high class in one of them does too.
+-- Assumes nothing.
+use mathlib.Core.Path.{_≡_, sym, ap, _∙_, subst}
+use mathlib.Core.Logic.{⊎-elim}
+use mathlib.Core.Bool.{Bool, true, false}
+use Prim.Native.Nat.{ℕ, _≤_}
+use lib.Dec.{ltb}
+use Rattle.policy.specs.Policy.{inRange as policyInRange}
+use Rattle.policy.specs.declared.Policy.{Policy}
+use Rattle.policy.proofs.Truth.{either}
+use Rattle.policy.proofs.Laws.{policy-laws}
+use Rattle.scheduler.specs.Queue.{queuesAfter}
+use Rattle.scheduler.specs.Range.{inRange}
+use Rattle.scheduler.specs.Call.{offerOn, offer, silent, afterTick, tickOn, tick}
+use Rattle.scheduler.specs.History.{Held}
+use Rattle.scheduler.specs.declared.Request.{Request}
+use Rattle.scheduler.specs.declared.State.{State}
+use Rattle.scheduler.specs.declared.Offered.{Offered}
+use Rattle.scheduler.specs.declared.Ticked.{Ticked}
+use Rattle.scheduler.proofs.Climbing.{on-true, on-false}
+use Rattle.scheduler.proofs.Whole.{whole}
+use Rattle.noninterference.specs.Low.{Downward, QueuesAgree}
+use Rattle.noninterference.specs.Alike.{Alike}
+use Rattle.noninterference.proofs.Offers.{offer-agrees, offer-unseen}
+use Rattle.noninterference.proofs.Ticks.{tick-alike}
+
+module _ (p : Policy) (given : policyInRange p ≡ true) (low : ℕ → Bool) (closed : Downward p low) where
+  few : p .classes ≤ 16
+  few = policy-laws p given .order .classes-few .1
+
+  -- an offer on a state in range
+  offer-is : (s : State) (o : Request) → Held p s → offer p s o ≡ offerOn s o
+  unfolding offer
+  offer-is s o h = on-true (inRange p s) (offerOn s o) (record { status = 13; state = s }) (h .ranges)
+
+  module _ (s r : State) (h : Held p s) (g : Held p r) (alike : Alike p low s r) where
+    count-s : p .classes ≡ s .classes
+    count-s = sym (whole p s (h .ranges) .same-count)
+
+    count-r : p .classes ≡ r .classes
+    count-r = sym (whole p r (g .ranges) .same-count)
+
+    -- ---- an offer of a low class in both
+
+    pub both-offer : (o : Request) → low (o .class) ≡ true → Alike p low (offer p s o .state) (offer p r o .state)
+    unfolding offerOn
+    both-offer o i =
+        subst (λ (x : Offered). Alike p low (x .state) (offer p r o .state)) (sym (offer-is s o h))
+        (subst (λ (x : Offered). Alike p low (offerOn s o .state) (x .state)) (sym (offer-is r o g))
+        (record {
+          cycles = alike .cycles;
+          queues =
+              subst (λ (n : ℕ). QueuesAgree low (queuesAfter n (s .queues) o) (queuesAfter (r .classes) (r .queues) o)) count-s
+              (subst (λ (n : ℕ). QueuesAgree low (queuesAfter (p .classes) (s .queues) o) (queuesAfter n (r .queues) o)) count-r
+              (offer-agrees (p .classes) few low (s .queues) (r .queues) o (whole p s (h .ranges) .queues-fit) (whole p r (g .ranges) .queues-fit) (alike .queues) i));
+          turns = alike .turns;
+          columns = alike .columns;
+          responses = alike .responses;
+          lasts = alike .lasts;
+        }))
+
+    -- ---- an offer of a high class in the first
+
+    pub one-offer : (o : Request) → low (o .class) ≡ false → Alike p low (offer p s o .state) r
+    unfolding offerOn
+    one-offer o high =
+        subst (λ (x : Offered). Alike p low (x .state) r) (sym (offer-is s o h))
+        (record {
+          cycles = alike .cycles;
+          queues = λ c i. offer-unseen (s .classes) (subst (λ (n : ℕ). n ≤ 16) count-s few) low (s .queues) o high c i ∙ alike .queues c i;
+          turns = alike .turns;
+          columns = alike .columns;
+          responses = alike .responses;
+          lasts = alike .lasts;
+        })
+
+    -- ---- a tick in both, refused or not
+
+    pub both-tick : Alike p low (tick p s .state) (tick p r .state)
+    unfolding tick tickOn
+    both-tick =
+        let refused : ℕ → State → Ticked = λ k x. record { status = k; state = x; shown = silent } in
+        let same-limit : ltb (s .cycle) 16777215 ≡ ltb (r .cycle) 16777215 = ap (λ (k : ℕ). ltb k 16777215) (alike .cycles) in
+        let on-s = on-true (inRange p s) (tickOn p s) (refused 13 s) (h .ranges) in
+        let on-r = on-true (inRange p r) (tickOn p r) (refused 13 r) (g .ranges) in
+        subst (λ (x : Ticked). Alike p low (x .state) (tick p r .state)) (sym on-s)
+        (subst (λ (x : Ticked). Alike p low (tickOn p s .state) (x .state)) (sym on-r)
+        (⊎-elim
+        (λ e.
+        subst (λ (x : Ticked). Alike p low (x .state) (tickOn p r .state)) (sym (on-true (ltb (s .cycle) 16777215) (afterTick p s) (refused 12 s) e))
+        (subst (λ (x : Ticked). Alike p low (afterTick p s .state) (x .state)) (sym (on-true (ltb (r .cycle) 16777215) (afterTick p r) (refused 12 r) (sym same-limit ∙ e)))
+        (tick-alike p given low closed s r h g alike)))
+        (λ e.
+        subst (λ (x : Ticked). Alike p low (x .state) (tickOn p r .state)) (sym (on-false (ltb (s .cycle) 16777215) (afterTick p s) (refused 12 s) e))
+        (subst (λ (x : Ticked). Alike p low s (x .state)) (sym (on-false (ltb (r .cycle) 16777215) (afterTick p r) (refused 12 r) (sym same-limit ∙ e))) alike))
+        (either (ltb (s .cycle) 16777215))))

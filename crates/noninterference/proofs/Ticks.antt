@@ -1,0 +1,174 @@
+-- A tick keeps two states alike.
+-- Assumes nothing.
+use mathlib.Core.Path.{_≡_, refl, sym, ap, ap₂, _∙_, subst}
+use mathlib.Core.Logic.{⊎-elim}
+use mathlib.Core.Bool.{Bool, true, false}
+use mathlib.Core.List.{List}
+use Prim.Native.Nat.{ℕ, _+_, _%_, _<_}
+use native.Mathlib.Nat.{lt-of-lt-of-le}
+use native.Mathlib.Omega.{arith}
+use lib.Dec.{lit<}
+use lib.ListN.{length, length-set}
+use Rattle.policy.specs.Policy.{inRange as policyInRange}
+use Rattle.policy.specs.declared.Timing.{Timing}
+use Rattle.policy.specs.declared.Policy.{Policy}
+use Rattle.policy.proofs.Truth.{not-both}
+use Rattle.policy.proofs.Laws.{policy-laws}
+use Rattle.scheduler.specs.Word.{classOf}
+use Rattle.scheduler.specs.Queue.{waitingAt}
+use Rattle.scheduler.specs.Wire.{dueAt, sentAt, activated}
+use Rattle.scheduler.specs.Step.{turnsAt, Driven, drive, answered}
+use Rattle.scheduler.specs.Call.{afterTick}
+use Rattle.scheduler.specs.History.{Held}
+use Rattle.scheduler.specs.declared.Queues.{Queues}
+use Rattle.scheduler.specs.declared.Turns.{Turns}
+use Rattle.scheduler.specs.declared.Flight.{Flight}
+use Rattle.scheduler.specs.declared.State.{State}
+use Rattle.scheduler.proofs.Flying.{outcome}
+use Rattle.scheduler.proofs.Charged.{turns-kept}
+use Rattle.scheduler.proofs.Whole.{FlightRange, Whole, whole}
+use Rattle.scheduler.proofs.Steady.{Midway, midway}
+use Rattle.noninterference.specs.Low.{Downward, hidden, QueuesAgree, PendingAgree, LastsAgree}
+use Rattle.noninterference.specs.Alike.{Alike}
+use Rattle.noninterference.proofs.Flights.{stored-both}
+use Rattle.noninterference.proofs.Starts.{Begun, begun}
+use Rattle.noninterference.proofs.Quiet.{hidden-none, hidden-low, quiet-queues, quiet-columns, quiet-responses}
+use Rattle.noninterference.proofs.Shared.{Shared, shared}
+
+-- the second step keeps as many places for responses
+still-long : (timing : Timing) (t owner : ℕ) (elided : Bool) (q : Queues) (f : Flight) → length (f .responses) ≡ 32 → length (drive timing t owner elided q f .flight .responses) ≡ 32
+unfolding activated
+still-long timing t owner elided q f long =
+    outcome timing t owner elided q f (λ d. length (d .flight .responses) ≡ 32) (λ due. long) (λ due e. length-set (f .responses) ((t + timing .response) % 32) (waitingAt q owner 0) ∙ long) (λ due stays. long)
+
+module _ (p : Policy) (given : policyInRange p ≡ true) (low : ℕ → Bool) (closed : Downward p low) where
+  -- what the second step leaves, at a cycle told apart from the state's
+  abbrev turnsOf : ℕ → State → Turns
+  turnsOf t s = turnsAt p t (s .queues .lengths) (s .turns)
+
+  abbrev drivenOf : ℕ → State → Driven
+  drivenOf t s = drive (p .timing) t (turnsOf t s .owner) (turnsOf t s .elided) (s .queues) (s .flight)
+
+  -- the queues and what is pending, once the second step is done
+  record Driving (t : ℕ) (s r : State) (d e : Driven) : Type 0 where
+    queues : QueuesAgree low (d .queues) (e .queues)
+    columns : PendingAgree low (d .flight .columns) (e .flight .columns)
+    responses : PendingAgree low (d .flight .responses) (e .flight .responses)
+    lasts : low (turnsOf t s .owner) ≡ true → LastsAgree (p .timing .dead) (t + 1) (d .flight) (e .flight)
+
+  -- a due word, where the owner is low, is seen
+  seen : (t : ℕ) (turns : Turns) (s : State) → Midway p given t turns (s .flight) → low (turns .owner) ≡ true → hidden low (dueAt (s .flight .columns) t) ≡ dueAt (s .flight .columns) t
+  seen t turns s m i =
+      let now : t + 0 ≡ t = omega arith in
+      subst (λ (k : ℕ). hidden low (dueAt (s .flight .columns) k) ≡ dueAt (s .flight .columns) k) now
+      (⊎-elim
+      (λ z. ap (hidden low) z ∙ hidden-none low ∙ sym z)
+      (λ f. hidden-low low (dueAt (s .flight .columns) (t + 0)) (closed (classOf (dueAt (s .flight .columns) (t + 0))) (turns .owner) f i))
+      (m .flowing .column 0 (lit< tt)))
+
+  module _ (s r : State) (h : Held p s) (g : Held p r) (alike : Alike p low s r) where
+    abbrev t : ℕ
+    t = s .cycle
+
+    ws : Whole p s
+    ws = whole p s (h .ranges)
+
+    wr : Whole p r
+    wr = whole p r (g .ranges)
+
+    flight-r : FlightRange (p .classes) (p .timing) t (r .flight)
+    flight-r = subst (λ (k : ℕ). FlightRange (p .classes) (p .timing) k (r .flight)) (sym (alike .cycles)) (wr .flight-fit)
+
+    midway-r : Midway p given t (turnsOf t r) (r .flight)
+    midway-r = subst (λ (k : ℕ). Midway p given k (turnsOf k r) (r .flight)) (sym (alike .cycles)) (midway p given r g)
+
+    start : Begun p given low closed t (turnsOf t s) (turnsOf t r) (s .flight) (r .flight)
+    start = begun p given low closed s r h g alike
+
+    small-s : turnsOf t s .owner < 16
+    small-s = lt-of-lt-of-le (turns-kept p given t (s .queues .lengths) (s .turns) (ws .turns-fit) .owner-class) (policy-laws p given .order .classes-few .1)
+
+    small-r : turnsOf t r .owner < 16
+    small-r = lt-of-lt-of-le (turns-kept p given t (r .queues .lengths) (r .turns) (wr .turns-fit) .owner-class) (policy-laws p given .order .classes-few .1)
+
+    inside : (pending : List ℕ) → length pending ≡ 32 → t % 32 < length pending
+    inside pending long = subst (λ (m : ℕ). t % 32 < m) (sym long) (omega arith)
+
+    -- at the same low owner
+    low-drive : turnsOf t s .owner ≡ turnsOf t r .owner → low (turnsOf t s .owner) ≡ true → Shared low (p .classes) (p .timing) t (turnsOf t s .owner) (turnsOf t s .elided) (s .queues) (r .queues) (s .flight) (r .flight) (policy-laws p given .timed) small-s (drivenOf t s) (drivenOf t r)
+    unfolding dueAt
+    low-drive same i =
+        let due =
+        sym (seen t (turnsOf t s) s (midway p given s h) i)
+        ∙ alike .columns (t % 32)
+        ∙ seen t (turnsOf t r) r midway-r (ap low (sym same) ∙ i)
+        in
+        let second : drive (p .timing) t (turnsOf t s .owner) (turnsOf t s .elided) (r .queues) (r .flight) ≡ drivenOf t r =
+        ap₂ (λ (o : ℕ) (b : Bool). drive (p .timing) t o b (r .queues) (r .flight)) same (start .turns .elisions i)
+        in
+        subst (Shared low (p .classes) (p .timing) t (turnsOf t s .owner) (turnsOf t s .elided) (s .queues) (r .queues) (s .flight) (r .flight) (policy-laws p given .timed) small-s (drivenOf t s)) second
+        (shared low (p .classes) (p .timing) t (turnsOf t s .owner) (turnsOf t s .elided) (s .queues) (r .queues) (s .flight) (r .flight) (policy-laws p given .timed) small-s
+        (ws .queues-fit) (wr .queues-fit) (ws .flight-fit) flight-r (alike .queues) (alike .columns) (alike .responses) (start .lasts i) i due)
+
+    -- at high owners
+    high-drive : low (turnsOf t s .owner) ≡ false → low (turnsOf t r .owner) ≡ false → Driving t s r (drivenOf t s) (drivenOf t r)
+    unfolding sentAt
+    high-drive one two =
+        let timed = policy-laws p given .timed in
+        let sent =
+        stored-both low (s .flight .columns) (r .flight .columns) (t % 32) 0 0 (inside (s .flight .columns) (ws .flight-fit .columns-long)) (inside (r .flight .columns) (flight-r .columns-long)) refl (alike .columns)
+        in
+        record {
+          queues =
+              λ c i.
+              quiet-queues low (p .classes) (p .timing) t (turnsOf t s .owner) (turnsOf t s .elided) (s .queues) (s .flight) timed small-s (ws .queues-fit) (ws .flight-fit) one c i
+              ∙ alike .queues c i
+              ∙ sym (quiet-queues low (p .classes) (p .timing) t (turnsOf t r .owner) (turnsOf t r .elided) (r .queues) (r .flight) timed small-r (wr .queues-fit) flight-r two c i);
+          columns =
+              λ i.
+              quiet-columns low (p .classes) (p .timing) t (turnsOf t s .owner) (turnsOf t s .elided) (s .queues) (s .flight) timed small-s (ws .queues-fit) (ws .flight-fit) one i
+              ∙ sent i
+              ∙ sym (quiet-columns low (p .classes) (p .timing) t (turnsOf t r .owner) (turnsOf t r .elided) (r .queues) (r .flight) timed small-r (wr .queues-fit) flight-r two i);
+          responses =
+              λ i.
+              quiet-responses low (p .classes) (p .timing) t (turnsOf t s .owner) (turnsOf t s .elided) (s .queues) (s .flight) timed small-s (ws .queues-fit) (ws .flight-fit) one i
+              ∙ alike .responses i
+              ∙ sym (quiet-responses low (p .classes) (p .timing) t (turnsOf t r .owner) (turnsOf t r .elided) (r .queues) (r .flight) timed small-r (wr .queues-fit) flight-r two i);
+          lasts = λ i. absurd (not-both i one);
+        }
+
+    driving : Driving t s r (drivenOf t s) (drivenOf t r)
+    driving =
+        ⊎-elim
+        (λ both. let d = low-drive (both .0) (both .1) in record { queues = d .queues; columns = d .columns; responses = d .responses; lasts = λ i. d .lasts })
+        (λ both. high-drive (both .0) (both .1))
+        (start .turns .owners)
+
+    -- the state after a tick at a cycle told apart from the state's
+    abbrev later : ℕ → State → State
+    later k x = record { cycle = k + 1; classes = x .classes; queues = drivenOf k x .queues; turns = turnsOf k x; flight = answered k (drivenOf k x .flight) }
+
+    later-alike : Alike p low (later t s) (later t r)
+    unfolding answered sentAt
+    later-alike =
+        let d = driving in
+        let long-s = still-long (p .timing) t (turnsOf t s .owner) (turnsOf t s .elided) (s .queues) (s .flight) (ws .flight-fit .responses-long) in
+        let long-r = still-long (p .timing) t (turnsOf t r .owner) (turnsOf t r .elided) (r .queues) (r .flight) (flight-r .responses-long) in
+        record {
+          cycles = refl;
+          queues = d .queues;
+          turns = start .turns;
+          columns = d .columns;
+          responses =
+              stored-both low (drivenOf t s .flight .responses) (drivenOf t r .flight .responses) (t % 32) 0 0 (inside (drivenOf t s .flight .responses) long-s) (inside (drivenOf t r .flight .responses) long-r) refl (d .responses);
+          lasts = λ i. let l = d .lasts i in record { of-all = l .of-all; of-bank = l .of-bank };
+        }
+
+    pub tick-alike : Alike p low (afterTick p s .state) (afterTick p r .state)
+    unfolding afterTick
+    tick-alike = subst (λ (k : ℕ). Alike p low (later t s) (later k r)) (alike .cycles) later-alike
+
+    -- and what it shows of a response looks the same
+    pub tick-response : hidden low (afterTick p s .shown .response) ≡ hidden low (afterTick p r .shown .response)
+    unfolding afterTick dueAt
+    tick-response = subst (λ (k : ℕ). hidden low (dueAt (drivenOf t s .flight .responses) t) ≡ hidden low (dueAt (drivenOf k r .flight .responses) k)) (alike .cycles) (driving .responses (t % 32))

@@ -16,3 +16,5 @@ pub mod Shared
 pub mod Ticks
 -- of single calls in two runs
 pub mod Calls
+-- of two lists of calls
+pub mod Lists

@@ -4,3 +4,5 @@
 pub mod Low
 -- two states that the low classes cannot tell apart
 pub mod Alike
+-- what is struck out of a list, and what holds of the states after two lists
+pub mod Purge

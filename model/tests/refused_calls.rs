@@ -24,15 +24,6 @@ fn full_queue_of_0() -> State {
 
 const BAD_CLASS: u8 = 2;
 
-fn request(class: u8, kind: u8, bank: u8) -> Request {
-    Request {
-        class,
-        kind,
-        bank,
-        tag: 5,
-    }
-}
-
 fn offer_number(state: &State, request: Request) -> u32 {
     let mut after = state.clone();
     let outcome = offer(&printed_policy(), &mut after, request);

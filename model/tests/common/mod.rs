@@ -4,7 +4,7 @@
 
 use vigambul_model::generate::PolicyFields;
 use vigambul_model::policy::{self, Policy};
-use vigambul_model::state::{self, Request, State};
+use vigambul_model::state::{self, InFlight, Kind, LastActivate, Request, State};
 use vigambul_model::trace::{self, offer_word, LINE};
 
 /// The timing body of document 01's printed log: turns of 4, dead time 2, all
@@ -107,3 +107,141 @@ pub fn always_waiting(policy: &Policy, classes: &[u8], turn_count: usize) -> Vec
     }
     list
 }
+
+/// A request with a tag of its own.
+pub fn request(class: u8, kind: u8, bank: u8) -> Request {
+    Request {
+        class,
+        kind,
+        bank,
+        tag: 5,
+    }
+}
+
+/// 0 below 1 and 2; turns of 20, dead time 10, column delay 3, answer delay 6.
+pub fn fork() -> Policy {
+    policy(&FORK, 4, &[0, 1, 1], [20, 10, 2, 2, 2, 2, 2, 2, 3, 6])
+}
+
+/// A state at cycle 3 with two columns due at 3 and 5, two answers due at 6 and 8, and a waiting
+/// request of class 1.
+pub fn busy() -> State {
+    let policy = fork();
+    let mut state = fresh(&policy);
+    let offers = [read_word(0, 1), read_word(0, 2), read_word(1, 3)];
+    run_on(&policy, &mut state, &offers);
+    run_on(&policy, &mut state, &[0; 3]);
+    let due = |flight: &[InFlight]| flight.iter().map(|item| item.due).collect::<Vec<_>>();
+    assert_eq!(due(&state.columns), [3, 5]);
+    assert_eq!(due(&state.responses), [6, 8]);
+    state
+}
+
+pub fn waiting(state: &mut State, class: usize, request: Request) {
+    state.classes[class].queue.push_back(request);
+}
+
+pub fn last(cycle: u32, kind: Kind) -> Option<LastActivate> {
+    Some(LastActivate { cycle, kind })
+}
+
+/// A case's name, and what it changes in a busy state.
+pub type Change = (&'static str, fn(&mut State));
+
+/// Every clause of 13 on a state, with a number just out of range.
+pub const OUT_OF_RANGE: [Change; 33] = [
+    ("a sound state", |_| ()),
+    ("one class less", |state| state.classes.truncate(2)),
+    ("one class more", |state| {
+        state.classes.push(Default::default())
+    }),
+    ("no classes", |state| state.classes.clear()),
+    ("an owner not below n", |state| state.owner = 3),
+    ("a cycle of 16777216", |state| {
+        *state = fresh(&fork());
+        state.cycle = 16_777_216;
+    }),
+    ("the highest cycle", |state| {
+        *state = fresh(&fork());
+        state.cycle = u32::MAX;
+    }),
+    ("a mark above the children", |state| {
+        state.classes[0].pointer = 3
+    }),
+    ("a mark where there are no children", |state| {
+        state.classes[1].pointer = 1
+    }),
+    ("turns left above the cap of 0", |state| {
+        state.classes[0].left = 3
+    }),
+    ("turns left above the cap of 1", |state| {
+        state.classes[1].left = 5
+    }),
+    ("turns left above the cap of 2", |state| {
+        state.classes[2].left = 5
+    }),
+    ("a queue length of 9", |state| {
+        state.classes[0].queue = vec![request(0, 1, 7); 9].into()
+    }),
+    ("a waiting request of no class", |state| {
+        waiting(state, 2, request(3, 0, 0))
+    }),
+    ("a waiting request of bank 8", |state| {
+        waiting(state, 2, request(2, 0, 8))
+    }),
+    ("a waiting request of kind 2", |state| {
+        waiting(state, 2, request(2, 2, 0))
+    }),
+    ("a request in another class's queue", |state| {
+        waiting(state, 2, request(1, 0, 0))
+    }),
+    ("the second of a queue is wrong", |state| {
+        waiting(state, 1, request(0, 0, 0))
+    }),
+    ("the eighth of a queue is wrong", |state| {
+        state.classes[0].queue = vec![request(0, 1, 7); 7].into();
+        waiting(state, 0, request(0, 0, 8));
+    }),
+    ("a last activate at the cycle", |state| {
+        state.last_activate = last(3, Kind::Read)
+    }),
+    ("a last activate after the cycle", |state| {
+        state.last_activate = last(100, Kind::Write)
+    }),
+    ("a last activate of bank 7 at the cycle", |state| {
+        state.last_of_bank[7] = last(3, Kind::Write)
+    }),
+    ("a last activate of bank 0 after the cycle", |state| {
+        state.last_of_bank[0] = last(100, Kind::Read)
+    }),
+    ("a column of no class", |state| {
+        state.columns[0].request = request(3, 0, 0)
+    }),
+    ("a column of bank 8", |state| {
+        state.columns[1].request = request(0, 0, 8)
+    }),
+    ("a column of kind 2", |state| {
+        state.columns[1].request = request(0, 2, 0)
+    }),
+    ("a column due before the next tick", |state| {
+        state.columns[0].due = 2
+    }),
+    ("a column due its delay after it", |state| {
+        state.columns[1].due = 6
+    }),
+    ("an answer of no class", |state| {
+        state.responses[0].request = request(16, 0, 0)
+    }),
+    ("an answer of bank 8", |state| {
+        state.responses[1].request = request(0, 0, 8)
+    }),
+    ("an answer of kind 2", |state| {
+        state.responses[0].request = request(0, 2, 0)
+    }),
+    ("an answer due before the next tick", |state| {
+        state.responses[0].due = 2
+    }),
+    ("an answer due its delay after it", |state| {
+        state.responses[1].due = 9
+    }),
+];

@@ -31,7 +31,7 @@ module _ (p : Policy) where
   four-each s [] = refl
   four-each s (x ∷ xs) = let rest = four-each (answerTo p s x .state) xs in omega (arith, rest)
 
-  one-call : (s : State) (t : Call) → FromFresh p s → FromFresh p (answer p s t .state)
+  pub one-call : (s : State) (t : Call) → FromFresh p s → FromFresh p (answer p s t .state)
   unfolding answer
   one-call s Tick from = after-tick s from
   one-call s (Offer r) from = after-offer s r from

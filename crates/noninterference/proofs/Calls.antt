@@ -10,14 +10,13 @@ use Rattle.policy.specs.declared.Policy.{Policy}
 use Rattle.policy.proofs.Truth.{either}
 use Rattle.policy.proofs.Laws.{policy-laws}
 use Rattle.scheduler.specs.Queue.{queuesAfter}
-use Rattle.scheduler.specs.Range.{inRange}
-use Rattle.scheduler.specs.Call.{offerOn, offer, silent, afterTick, tickOn, tick}
+use Rattle.scheduler.specs.Call.{offerOn, offer, afterTick, tick}
 use Rattle.scheduler.specs.History.{Held}
 use Rattle.scheduler.specs.declared.Request.{Request}
 use Rattle.scheduler.specs.declared.State.{State}
 use Rattle.scheduler.specs.declared.Offered.{Offered}
 use Rattle.scheduler.specs.declared.Ticked.{Ticked}
-use Rattle.scheduler.proofs.Climbing.{on-true, on-false}
+use Rattle.scheduler.proofs.Answers.{offer-is, tick-is, tick-late}
 use Rattle.scheduler.proofs.Whole.{whole}
 use Rattle.noninterference.specs.Low.{Downward, QueuesAgree}
 use Rattle.noninterference.specs.Alike.{Alike}
@@ -27,11 +26,6 @@ use Rattle.noninterference.proofs.Ticks.{tick-alike}
 module _ (p : Policy) (given : policyInRange p ≡ true) (low : ℕ → Bool) (closed : Downward p low) where
   few : p .classes ≤ 16
   few = policy-laws p given .order .classes-few .1
-
-  -- an offer on a state in range
-  offer-is : (s : State) (o : Request) → Held p s → offer p s o ≡ offerOn s o
-  unfolding offer
-  offer-is s o h = on-true (inRange p s) (offerOn s o) (record { status = 13; state = s }) (h .ranges)
 
   module _ (s r : State) (h : Held p s) (g : Held p r) (alike : Alike p low s r) where
     count-s : p .classes ≡ s .classes
@@ -45,8 +39,8 @@ module _ (p : Policy) (given : policyInRange p ≡ true) (low : ℕ → Bool) (c
     pub both-offer : (o : Request) → low (o .class) ≡ true → Alike p low (offer p s o .state) (offer p r o .state)
     unfolding offerOn
     both-offer o i =
-        subst (λ (x : Offered). Alike p low (x .state) (offer p r o .state)) (sym (offer-is s o h))
-        (subst (λ (x : Offered). Alike p low (offerOn s o .state) (x .state)) (sym (offer-is r o g))
+        subst (λ (x : Offered). Alike p low (x .state) (offer p r o .state)) (sym (offer-is p s (h .ranges) o))
+        (subst (λ (x : Offered). Alike p low (offerOn s o .state) (x .state)) (sym (offer-is p r (g .ranges) o))
         (record {
           cycles = alike .cycles;
           queues =
@@ -64,7 +58,7 @@ module _ (p : Policy) (given : policyInRange p ≡ true) (low : ℕ → Bool) (c
     pub one-offer : (o : Request) → low (o .class) ≡ false → Alike p low (offer p s o .state) r
     unfolding offerOn
     one-offer o high =
-        subst (λ (x : Offered). Alike p low (x .state) r) (sym (offer-is s o h))
+        subst (λ (x : Offered). Alike p low (x .state) r) (sym (offer-is p s (h .ranges) o))
         (record {
           cycles = alike .cycles;
           queues = λ c i. offer-unseen (s .classes) (subst (λ (n : ℕ). n ≤ 16) count-s few) low (s .queues) o high c i ∙ alike .queues c i;
@@ -77,20 +71,13 @@ module _ (p : Policy) (given : policyInRange p ≡ true) (low : ℕ → Bool) (c
     -- ---- a tick in both, refused or not
 
     pub both-tick : Alike p low (tick p s .state) (tick p r .state)
-    unfolding tick tickOn
     both-tick =
-        let refused : ℕ → State → Ticked = λ k x. record { status = k; state = x; shown = silent } in
         let same-limit : ltb (s .cycle) 16777215 ≡ ltb (r .cycle) 16777215 = ap (λ (k : ℕ). ltb k 16777215) (alike .cycles) in
-        let on-s = on-true (inRange p s) (tickOn p s) (refused 13 s) (h .ranges) in
-        let on-r = on-true (inRange p r) (tickOn p r) (refused 13 r) (g .ranges) in
-        subst (λ (x : Ticked). Alike p low (x .state) (tick p r .state)) (sym on-s)
-        (subst (λ (x : Ticked). Alike p low (tickOn p s .state) (x .state)) (sym on-r)
-        (⊎-elim
+        ⊎-elim
         (λ e.
-        subst (λ (x : Ticked). Alike p low (x .state) (tickOn p r .state)) (sym (on-true (ltb (s .cycle) 16777215) (afterTick p s) (refused 12 s) e))
-        (subst (λ (x : Ticked). Alike p low (afterTick p s .state) (x .state)) (sym (on-true (ltb (r .cycle) 16777215) (afterTick p r) (refused 12 r) (sym same-limit ∙ e)))
-        (tick-alike p given low closed s r h g alike)))
+        subst (λ (x : Ticked). Alike p low (x .state) (tick p r .state)) (sym (tick-is p s (h .ranges) e))
+        (subst (λ (x : Ticked). Alike p low (afterTick p s .state) (x .state)) (sym (tick-is p r (g .ranges) (sym same-limit ∙ e))) (tick-alike p given low closed s r h g alike)))
         (λ e.
-        subst (λ (x : Ticked). Alike p low (x .state) (tickOn p r .state)) (sym (on-false (ltb (s .cycle) 16777215) (afterTick p s) (refused 12 s) e))
-        (subst (λ (x : Ticked). Alike p low s (x .state)) (sym (on-false (ltb (r .cycle) 16777215) (afterTick p r) (refused 12 r) (sym same-limit ∙ e))) alike))
-        (either (ltb (s .cycle) 16777215))))
+        subst (λ (x : Ticked). Alike p low (x .state) (tick p r .state)) (sym (tick-late p s (h .ranges) e))
+        (subst (λ (x : Ticked). Alike p low s (x .state)) (sym (tick-late p r (g .ranges) (sym same-limit ∙ e))) alike))
+        (either (ltb (s .cycle) 16777215))

@@ -10,7 +10,7 @@ use Rattle.policy.specs.declared.Policy.{Policy}
 use Rattle.policy.proofs.Truth.{either, not-both}
 use Rattle.policy.proofs.Laws.{policy-laws}
 use Rattle.scheduler.specs.Range.{freshState}
-use Rattle.scheduler.specs.History.{FromFresh, at-first, after-offer, after-tick}
+use Rattle.scheduler.specs.History.{FromFresh, at-first}
 use Rattle.scheduler.specs.declared.State.{State}
 use Rattle.scheduler.proofs.Climbing.{on-true, on-false}
 use Rattle.scheduler.proofs.Steady.{held}
@@ -18,6 +18,7 @@ use Rattle.log.specs.Trace.{callOf}
 use Rattle.log.specs.Run.{answer, answerTo, stateAfter}
 use Rattle.log.specs.declared.Call.{Call}
 use Rattle.log.specs.declared.Call.the-variants.{Tick, Offer, Malformed}
+use Rattle.log.proofs.Laws.{one-call as reached}
 use Rattle.noninterference.specs.Low.{Downward, OwnersAgree}
 use Rattle.noninterference.specs.Alike.{Alike}
 use Rattle.noninterference.specs.Purge.{stays, purge, below, SameAfter}
@@ -38,13 +39,6 @@ alike-self p low s =
     }
 
 module _ (p : Policy) (given : policyInRange p ≡ true) (low : ℕ → Bool) (closed : Downward p low) where
-  -- one call leads from a state reached from fresh to another
-  reached : (s : State) (c : Call) → FromFresh p s → FromFresh p (answer p s c .state)
-  unfolding answer
-  reached s Tick from = after-tick s from
-  reached s (Offer r) from = after-offer s r from
-  reached s Malformed from = from
-
   -- a call that stays, made in both
   both-call : (s r : State) (c : Call) → FromFresh p s → FromFresh p r → stays low c ≡ true → Alike p low s r → Alike p low (answer p s c .state) (answer p r c .state)
   unfolding answer stays
@@ -68,10 +62,10 @@ module _ (p : Policy) (given : policyInRange p ≡ true) (low : ℕ → Bool) (c
       ⊎-elim
       (λ i.
       subst (λ (l : List ℕ). Alike p low (stateAfter p (answerTo p s x .state) xs) (stateAfter p r l)) (sym (on-true (stays low c) (x ∷ purge low xs) (purge low xs) i))
-      (purged xs (answer p s c .state) (answer p r c .state) (reached s c from) (reached r c to) (both-call s r c from to i alike)))
+      (purged xs (answer p s c .state) (answer p r c .state) (reached p s c from) (reached p r c to) (both-call s r c from to i alike)))
       (λ i.
       subst (λ (l : List ℕ). Alike p low (stateAfter p (answerTo p s x .state) xs) (stateAfter p r l)) (sym (on-false (stays low c) (x ∷ purge low xs) (purge low xs) i))
-      (purged xs (answer p s c .state) r (reached s c from) to (one-call s r c from to i alike)))
+      (purged xs (answer p s c .state) r (reached p s c from) to (one-call s r c from to i alike)))
       (either (stays low c))
 
 -- the classes that may flow to L are closed downward

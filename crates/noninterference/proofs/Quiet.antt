@@ -1,6 +1,6 @@
 -- The second step of a tick at a high owner: the low classes see nothing but that a column command of theirs goes out when it is due.
 -- Assumes nothing.
-use mathlib.Core.Path.{_≡_, refl, sym, ap, _∙_, subst}
+use mathlib.Core.Path.{_≡_, refl, sym, ap, _∙_}
 use mathlib.Core.Logic.{⊎-elim}
 use mathlib.Core.Bool.{Bool, true, false, cond}
 use mathlib.Core.List.{List}
@@ -21,7 +21,7 @@ use Rattle.scheduler.specs.Range.{rightWord}
 use Rattle.scheduler.specs.History.{Each}
 use Rattle.scheduler.specs.declared.Queues.{Queues}
 use Rattle.scheduler.specs.declared.Flight.{Flight}
-use Rattle.scheduler.proofs.Pending.{Fits}
+use Rattle.scheduler.proofs.Pending.{inside, Fits}
 use Rattle.scheduler.proofs.Flying.{outcome}
 use Rattle.scheduler.proofs.Waiting.{dequeue-beside}
 use Rattle.scheduler.proofs.Whole.{QueuesRange, FlightRange}
@@ -69,9 +69,6 @@ module _ (low : ℕ → Bool) (n : ℕ) (timing : Timing) (t owner : ℕ) (elide
       outcome timing t owner elided q f (λ d. QueuesAgree low (d .queues) q) (λ due c i. refl)
       (λ due e c i. dequeue-beside q owner c (λ s. not-both i (ap low s ∙ high)))
       (λ due stays c i. refl)
-
-  inside : (pending : List ℕ) → length pending ≡ 32 → (k : ℕ) → k % 32 < length pending
-  inside pending long k = subst (λ (m : ℕ). k % 32 < m) (sym long) (omega arith)
 
   -- a high word that is stored is not seen
   unseen : (pending : List ℕ) (delay : ℕ) → length pending ≡ 32 → delay < 32 → Each (Fits n delay) t pending → canActivate timing t owner elided q f ≡ true → PendingAgree low (set pending ((t + delay) % 32) head) pending

@@ -9,7 +9,7 @@ use native.Mathlib.Omega.{arith}
 use borrow.Author.Tests.{eqb-true, eqb-false}
 use lib.Arith.{lt-of-le-ne}
 use lib.Dec.{eqb}
-use lib.ListN.{length, getD, set}
+use lib.ListN.{getD, set}
 use lib.Seq.{getD-set-same, getD-set-other}
 use Rattle.policy.specs.Laws.{TimingLaws}
 use Rattle.policy.specs.declared.Timing.{Timing}
@@ -25,6 +25,7 @@ use Rattle.scheduler.specs.declared.Flight.{Flight}
 use Rattle.scheduler.proofs.Ranged.{sound-bank, sound-kind}
 use Rattle.scheduler.proofs.Drives.{column-sent, head-sent, nothing-sent, drive-column, drive-nothing, drive-activate}
 use Rattle.scheduler.proofs.Waiting.{dequeue-first, dequeue-beside}
+use Rattle.scheduler.proofs.Pending.{inside}
 use Rattle.scheduler.proofs.Whole.{QueuesRange, FlightRange}
 use Rattle.scheduler.proofs.Steady.{gap-later}
 use Rattle.noninterference.specs.Low.{hidden, QueuesAgree, PendingAgree, LastAgree, LastsAgree}
@@ -94,9 +95,6 @@ module _ (low : ℕ → Bool) (n : ℕ) (timing : Timing) (t owner : ℕ) (elide
         ap₂ (λ (k : ℕ) (b : Bool). offsetAllows timing elided t && not (eqb k 0) && b) same-count
         (same-gaps timing t f g w laws (sound-bank n w sound) (sound-kind n w sound) lasts ∙ ap (λ (x : ℕ). gapsMet timing g x t) (same-head some)))
         (either (eqb (lengthOf q owner) 0))
-
-    inside : (pending : List ℕ) → length pending ≡ 32 → (k : ℕ) → k % 32 < length pending
-    inside pending long k = subst (λ (m : ℕ). k % 32 < m) (sym long) (omega arith)
 
     later : LastsAgree (timing .dead) (t + 1) f g
     later =

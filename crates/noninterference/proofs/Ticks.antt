@@ -3,7 +3,6 @@
 use mathlib.Core.Path.{_≡_, refl, sym, ap, ap₂, _∙_, subst}
 use mathlib.Core.Logic.{⊎-elim}
 use mathlib.Core.Bool.{Bool, true, false}
-use mathlib.Core.List.{List}
 use Prim.Native.Nat.{ℕ, _+_, _%_, _<_}
 use native.Mathlib.Nat.{lt-of-lt-of-le}
 use native.Mathlib.Omega.{arith}
@@ -26,6 +25,7 @@ use Rattle.scheduler.specs.declared.Flight.{Flight}
 use Rattle.scheduler.specs.declared.State.{State}
 use Rattle.scheduler.proofs.Flying.{outcome}
 use Rattle.scheduler.proofs.Charged.{turns-kept}
+use Rattle.scheduler.proofs.Pending.{inside}
 use Rattle.scheduler.proofs.Whole.{FlightRange, Whole, whole}
 use Rattle.scheduler.proofs.Steady.{Midway, midway}
 use Rattle.noninterference.specs.Low.{Downward, hidden, QueuesAgree, PendingAgree, LastsAgree}
@@ -91,9 +91,6 @@ module _ (p : Policy) (given : policyInRange p ≡ true) (low : ℕ → Bool) (c
     small-r : turnsOf t r .owner < 16
     small-r = lt-of-lt-of-le (turns-kept p given t (r .queues .lengths) (r .turns) (wr .turns-fit) .owner-class) (policy-laws p given .order .classes-few .1)
 
-    inside : (pending : List ℕ) → length pending ≡ 32 → t % 32 < length pending
-    inside pending long = subst (λ (m : ℕ). t % 32 < m) (sym long) (omega arith)
-
     -- at the same low owner
     low-drive : turnsOf t s .owner ≡ turnsOf t r .owner → low (turnsOf t s .owner) ≡ true → Shared low (p .classes) (p .timing) t (turnsOf t s .owner) (turnsOf t s .elided) (s .queues) (r .queues) (s .flight) (r .flight) (policy-laws p given .timed) small-s (drivenOf t s) (drivenOf t r)
     unfolding dueAt
@@ -116,7 +113,7 @@ module _ (p : Policy) (given : policyInRange p ≡ true) (low : ℕ → Bool) (c
     high-drive one two =
         let timed = policy-laws p given .timed in
         let sent =
-        stored-both low (s .flight .columns) (r .flight .columns) (t % 32) 0 0 (inside (s .flight .columns) (ws .flight-fit .columns-long)) (inside (r .flight .columns) (flight-r .columns-long)) refl (alike .columns)
+        stored-both low (s .flight .columns) (r .flight .columns) (t % 32) 0 0 (inside (s .flight .columns) (ws .flight-fit .columns-long) t) (inside (r .flight .columns) (flight-r .columns-long) t) refl (alike .columns)
         in
         record {
           queues =
@@ -160,7 +157,7 @@ module _ (p : Policy) (given : policyInRange p ≡ true) (low : ℕ → Bool) (c
           turns = start .turns;
           columns = d .columns;
           responses =
-              stored-both low (drivenOf t s .flight .responses) (drivenOf t r .flight .responses) (t % 32) 0 0 (inside (drivenOf t s .flight .responses) long-s) (inside (drivenOf t r .flight .responses) long-r) refl (d .responses);
+              stored-both low (drivenOf t s .flight .responses) (drivenOf t r .flight .responses) (t % 32) 0 0 (inside (drivenOf t s .flight .responses) long-s t) (inside (drivenOf t r .flight .responses) long-r t) refl (d .responses);
           lasts = λ i. let l = d .lasts i in record { of-all = l .of-all; of-bank = l .of-bank };
         }
 

@@ -94,6 +94,11 @@ pub and-fails-right : (a b : Bool) → b ≡ false → (a && b) ≡ false
 and-fails-right true b e = e
 and-fails-right false b e = refl
 
+pub or-fails : (a b : Bool) → a ≡ false → b ≡ false → (a || b) ≡ false
+or-fails false false e f = refl
+or-fails true b e f = absurd (not-both refl e)
+or-fails false true e f = absurd (not-both refl f)
+
 pub and-comm : (a b : Bool) → (a && b) ≡ (b && a)
 and-comm true true = refl
 and-comm true false = refl

@@ -2,7 +2,7 @@
 -- Assumes nothing.
 use mathlib.Core.Path.{_≡_, refl, sym, ap, _∙_, subst}
 use mathlib.Core.Logic.{⊎-elim}
-use mathlib.Core.Bool.{Bool, true, false, not, _&&_, _||_}
+use mathlib.Core.Bool.{true, false, not, _&&_}
 use mathlib.Core.List.{List}
 use Prim.Native.Nat.{ℕ, zero, suc, _≤_, _<_}
 use native.Mathlib.Nat.{lt-of-le-of-lt, lt-irrefl, le-refl, le-of-lt}
@@ -14,7 +14,7 @@ use Rattle.policy.specs.Mask.{nth}
 use Rattle.policy.specs.Order.{flowsIn}
 use Rattle.policy.specs.Policy.{flows, strictly, least, above, coversOf, inRange}
 use Rattle.policy.specs.declared.Policy.{Policy}
-use Rattle.policy.proofs.Truth.{either, not-both, and-left, and-right, and-fails-right}
+use Rattle.policy.proofs.Truth.{either, not-both, and-left, and-right, and-fails-right, or-fails}
 use Rattle.policy.proofs.Reflect.{strictly-flows}
 use Rattle.policy.proofs.Laws.{policy-laws}
 use Rattle.scheduler.specs.Traversal.{moved, movedPointer, named, takesBy, takes, Reached, tryClass}
@@ -23,11 +23,6 @@ use Rattle.scheduler.specs.Step.{leftAtStart, ownedBy, startTurn}
 use Rattle.scheduler.specs.Laws.{Ascends, Elision}
 use Rattle.scheduler.proofs.Climbing.{named-covers, passes-on, try-takes, try-passes, goesOn, reach-fails, reach-on, on-covers}
 use Rattle.scheduler.proofs.Ordered.{climbs}
-
-or-fails : (a b : Bool) → a ≡ false → b ≡ false → (a || b) ≡ false
-or-fails false false e f = refl
-or-fails true b e f = absurd (not-both refl e)
-or-fails false true e f = absurd (not-both refl f)
 
 module _ (p : Policy) (given : inRange p ≡ true) where
   -- a class may flow to the cover that its pointer names

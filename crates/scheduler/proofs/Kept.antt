@@ -24,7 +24,7 @@ use Rattle.scheduler.specs.Queue.{headOf, lengthOf, waitingAt, enqueue, 
 use Rattle.scheduler.specs.Wire.{dueAt, sentAt, activateAt, offsetAllows, gapsMet, activated}
 use Rattle.scheduler.specs.Step.{turnsAt, canActivate, drive, answered}
 use Rattle.scheduler.specs.Range.{zeros, emptyQueues, nothingInFlight, stateAtStart, freshState, zeroState, rightWord, activateInRange, inRange}
-use Rattle.scheduler.specs.Call.{fresh, offerOn, offer, silent, afterTick, tickOn, tick}
+use Rattle.scheduler.specs.Call.{fresh, offerOn, offer, afterTick, tick}
 use Rattle.scheduler.specs.declared.Request.{Request}
 use Rattle.scheduler.specs.declared.Queues.{Queues}
 use Rattle.scheduler.specs.declared.Flight.{Flight}
@@ -39,6 +39,7 @@ use Rattle.scheduler.proofs.Waiting as waiting
 use Rattle.scheduler.proofs.Pending.{Later, Fits}
 use Rattle.scheduler.proofs.Flying.{outcome, columns-next, responses-next, activates-next}
 use Rattle.scheduler.proofs.Charged.{caps-within, turns-kept}
+use Rattle.scheduler.proofs.Answers.{offer-is, tick-is, tick-late}
 use Rattle.scheduler.proofs.Whole.{QueuesRange, Before, FlightRange, Whole, whole, in-range}
 
 positive : (k : ℕ) → k ≢ 0 → 0 < k
@@ -339,19 +340,14 @@ module _ (p : Policy) where
       (in-range p (freshState p) (fresh-whole p given))
 
   pub offer-in-range : (s : State) (r : Request) → inRange p s ≡ true → inRange p (offer p s r .state) ≡ true
-  unfolding offer
   offer-in-range s r e =
-      subst (λ (o : Offered). inRange p (o .state) ≡ true) (sym (on-true (inRange p s) (offerOn s r) (record { status = 13; state = s }) e))
-      (in-range p (offerOn s r .state) (offer-whole p s r (whole p s e)))
+      subst (λ (o : Offered). inRange p (o .state) ≡ true) (sym (offer-is p s e r)) (in-range p (offerOn s r .state) (offer-whole p s r (whole p s e)))
 
   pub tick-in-range : (s : State) → inRange p s ≡ true → inRange p (tick p s .state) ≡ true
-  unfolding tick tickOn
   tick-in-range s e =
-      let late : Ticked = record { status = 12; state = s; shown = silent } in
-      subst (λ (o : Ticked). inRange p (o .state) ≡ true) (sym (on-true (inRange p s) (tickOn p s) (record { status = 13; state = s; shown = silent }) e))
-      (⊎-elim
+      ⊎-elim
       (λ l.
-      subst (λ (o : Ticked). inRange p (o .state) ≡ true) (sym (on-true (ltb (s .cycle) 16777215) (afterTick p s) late l))
+      subst (λ (o : Ticked). inRange p (o .state) ≡ true) (sym (tick-is p s e l))
       (in-range p (afterTick p s .state) (tick-whole p s (whole p s e) (ltb-true (s .cycle) 16777215 l))))
-      (λ l. subst (λ (o : Ticked). inRange p (o .state) ≡ true) (sym (on-false (ltb (s .cycle) 16777215) (afterTick p s) late l)) e)
-      (either (ltb (s .cycle) 16777215)))
+      (λ l. subst (λ (o : Ticked). inRange p (o .state) ≡ true) (sym (tick-late p s e l)) e)
+      (either (ltb (s .cycle) 16777215))

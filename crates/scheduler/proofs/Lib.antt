@@ -22,6 +22,8 @@ pub mod Flying
 pub mod Charged
 -- of every state in range: its parts, and back
 pub mod Whole
+-- of every call on a state in range: its answer without the test
+pub mod Answers
 -- of every call: it keeps a state in range
 pub mod Kept
 -- of turns and cycles

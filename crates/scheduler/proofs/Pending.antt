@@ -30,6 +30,10 @@ not-last d l e =
 apart : (t delay : ℕ) → 1 ≤ delay → delay < 32 → t % 32 ≡ (t + delay) % 32 → ⊥
 apart t delay some small e = let none : delay ≡ 0 = omega (arith, small, e) in not-suc-le-zero {n = 0} (subst (λ (k : ℕ). 1 ≤ k) none some)
 
+-- every cycle has its place
+pub inside : (pending : List ℕ) → length pending ≡ 32 → (k : ℕ) → k % 32 < length pending
+inside pending long k = subst (λ (m : ℕ). k % 32 < m) (sym long) (omega arith)
+
 -- ---- what holds of each word that is due, d cycles after the next tick
 
 -- it will hold a cycle later
@@ -53,13 +57,10 @@ module _ (Q : ℕ → ℕ → Type 0) (t : ℕ) (pending : List ℕ) where
       (either (eqb d 31))
 
 module _ (P : ℕ → ℕ → Type 0) (t : ℕ) (pending : List ℕ) (long : length pending ≡ 32) where
-  inside : (k : ℕ) → k % 32 < length pending
-  inside k = subst (λ (m : ℕ). k % 32 < m) (sym long) (omega arith)
-
   -- what was due has gone out
   pub sent-none : dueAt (sentAt pending t) t ≡ 0
   unfolding dueAt sentAt
-  sent-none = getD-set-same pending (t % 32) 0 0 (inside t)
+  sent-none = getD-set-same pending (t % 32) 0 0 (inside pending long t)
 
   pub each-sent : Each P t pending → Each P t (sentAt pending t)
   unfolding dueAt sentAt
@@ -80,7 +81,7 @@ module _ (P : ℕ → ℕ → Type 0) (t : ℕ) (pending : List ℕ) (long : len
         (λ e.
         let at = eqb-true ((t + d) % 32) ((t + delay) % 32) e in
         let same : d ≡ delay = omega (arith, at, small, l) in
-        let found = ap (λ (k : ℕ). getD (set pending ((t + delay) % 32) w) k 0) at ∙ getD-set-same pending ((t + delay) % 32) w 0 (inside (t + delay)) in
+        let found = ap (λ (k : ℕ). getD (set pending ((t + delay) % 32) w) k 0) at ∙ getD-set-same pending ((t + delay) % 32) w 0 (inside pending long (t + delay)) in
         inr (subst (P d) (sym found) (subst (λ (k : ℕ). P k w) (sym same) new)))
         (λ e.
         let stays = getD-set-other pending ((t + delay) % 32) ((t + d) % 32) w 0 (eqb-false ((t + d) % 32) ((t + delay) % 32) e) in

@@ -19,7 +19,7 @@ use Rattle.scheduler.specs.Lookahead.{elides}
 use Rattle.scheduler.specs.Wire.{activateAt, gapMet, offsetAllows, gapsMet}
 use Rattle.scheduler.specs.Step.{turnStarts, turnNumber, ownedBy, startTurn, turnsAt, canActivate, drive, answered}
 use Rattle.scheduler.specs.Range.{nothingInFlight, stateAtStart, freshState, rightWord, activateInRange, inRange}
-use Rattle.scheduler.specs.Call.{offerOn, offer, silent, afterTick, tickOn, tick}
+use Rattle.scheduler.specs.Call.{offerOn, afterTick}
 use Rattle.scheduler.specs.History.{FromFresh, at-first, after-offer, after-tick, turnBefore, untilTurn, InFlight, Activates, Held}
 use Rattle.scheduler.specs.declared.Request.{Request}
 use Rattle.scheduler.specs.declared.Turns.{Turns}
@@ -33,6 +33,7 @@ use Rattle.scheduler.proofs.Ranged.{sound-bank, sound-kind}
 use Rattle.scheduler.proofs.Pending.{Later, Fits, each-map}
 use Rattle.scheduler.proofs.Flying.{columns-next, responses-next, activates-next}
 use Rattle.scheduler.proofs.Charged.{turns-kept}
+use Rattle.scheduler.proofs.Answers.{offer-is, tick-is, tick-late}
 use Rattle.scheduler.proofs.Whole.{Before, Whole, whole, in-range}
 use Rattle.scheduler.proofs.Calendar.{until-start, until-nearer, offset-far, number-start, number-stays}
 use Rattle.scheduler.proofs.Kept.{zero-at, none-due, head-right, fresh-whole, offer-in-range, tick-in-range}
@@ -267,22 +268,18 @@ module _ (p : Policy) (given : policyInRange p ≡ true) where
       }
 
   pub held : (s : State) → FromFresh p s → Held p s
-  unfolding offer tick tickOn
   held _ at-first = fresh-held
   held _ (after-offer s r from) =
       let h = held s from in
-      let same = on-true (inRange p s) (offerOn s r) (record { status = 13; state = s }) (h .ranges) in
+      let same = offer-is p s (h .ranges) r in
       subst (λ (o : Offered). Held p (o .state)) (sym same)
       (offer-held s h r (subst (λ (o : Offered). inRange p (o .state) ≡ true) same (offer-in-range p s r (h .ranges))))
   held _ (after-tick s from) =
       let h = held s from in
-      let late : Ticked = record { status = 12; state = s; shown = silent } in
-      let same = on-true (inRange p s) (tickOn p s) (record { status = 13; state = s; shown = silent }) (h .ranges) in
-      subst (λ (o : Ticked). Held p (o .state)) (sym same)
-      (⊎-elim
+      ⊎-elim
       (λ l.
-      let goes = on-true (ltb (s .cycle) 16777215) (afterTick p s) late l in
+      let goes = tick-is p s (h .ranges) l in
       subst (λ (o : Ticked). Held p (o .state)) (sym goes)
-      (tick-held s h (ltb-true (s .cycle) 16777215 l) (subst (λ (o : Ticked). inRange p (o .state) ≡ true) (same ∙ goes) (tick-in-range p s (h .ranges)))))
-      (λ l. subst (λ (o : Ticked). Held p (o .state)) (sym (on-false (ltb (s .cycle) 16777215) (afterTick p s) late l)) h)
-      (either (ltb (s .cycle) 16777215)))
+      (tick-held s h (ltb-true (s .cycle) 16777215 l) (subst (λ (o : Ticked). inRange p (o .state) ≡ true) goes (tick-in-range p s (h .ranges)))))
+      (λ l. subst (λ (o : Ticked). Held p (o .state)) (sym (tick-late p s (h .ranges) l)) h)
+      (either (ltb (s .cycle) 16777215))

@@ -23,19 +23,21 @@ use Rattle.policy.proofs.Laws.{policy-laws}
 use Rattle.scheduler.specs.Traversal.{moved, movedPointer, named, takesBy, takes, Reached, tryClass, charge}
 use Rattle.scheduler.specs.Lookahead.{reaches, nextLeft, elides}
 use Rattle.scheduler.specs.Step.{turnStarts, turnNumber, leftAtStart, ownedBy, startTurn, turnsAt, turnWord, canActivate, drive}
-use Rattle.scheduler.specs.Word.{kindOf, bankOf, wordOf, classFits, bankAndKindFit}
+use Rattle.scheduler.specs.Word.{classOf, kindOf, bankOf, tagOf, requestOf, wordOf, classFits, bankAndKindFit}
 use Rattle.scheduler.specs.Queue.{headOf, lengthOf, place, waitingAt, enqueue, dequeue, offerStatus, queuesAfter}
 use Rattle.scheduler.specs.Wire.{dueAt, gapMet, gapsMetBy, gapsMet, offsetAllows}
 use Rattle.scheduler.specs.Range.{zeros, emptyQueues, nothingInFlight, stateAtStart, freshState}
 use Rattle.scheduler.specs.Range.{inRange as stateRange}
-use Rattle.scheduler.specs.Call.{offerOn, offer, silent, afterTick, tickOn, tick}
+use Rattle.scheduler.specs.Call.{offerOn, offer, afterTick, tick}
 use Rattle.scheduler.specs.Worked.{example, alone, pair, fork, chain, turnsFrom, firstTurns, read, offered, WorkedTurns}
+use Rattle.scheduler.specs.declared.Wires.the-variants.{Activate}
 use Rattle.scheduler.specs.declared.State.{State}
 use Rattle.scheduler.specs.declared.Offered.{Offered}
 use Rattle.scheduler.specs.declared.Ticked.{Ticked}
-use Rattle.scheduler.proofs.Climbing.{on-true, try-takes, try-passes, falls, reach-here}
+use Rattle.scheduler.proofs.Climbing.{try-takes, try-passes, falls, reach-here}
 use Rattle.scheduler.proofs.Ordered.{climbs}
 use Rattle.scheduler.proofs.Elision.{ascends}
+use Rattle.scheduler.proofs.Answers.{offer-is, tick-is}
 use Rattle.scheduler.proofs.Whole.{in-range}
 use Rattle.scheduler.proofs.Kept.{fresh-whole, offer-in-range, tick-in-range}
 
@@ -105,17 +107,6 @@ fit : inRange alone ≡ true
 unfolding alone example policyOf listOf every some sum setOf member includes belowMask flowsIn strictlyIn betweenIn coversIn coverSet rowFits rowsFit antisymmetricAt antisymmetric transitiveAt transitive hasLeast leastAt minimumsSum minimumsAbove capIn turnsSound within gapsWithin bankWithin timingSound firstFailing policyTests refusal coversOf cap isClass storedFits allStoredFits shaped inRange
 fit = refl
 
--- a call on a state in range, without the test
-offer-on : (s : State) → stateRange alone s ≡ true → offer alone s read ≡ offerOn s read
-unfolding offer
-offer-on s r = on-true (stateRange alone s) (offerOn s read) (record { status = 13; state = s }) r
-
-tick-on : (s : State) → stateRange alone s ≡ true → ltb (s .cycle) 16777215 ≡ true → tick alone s ≡ afterTick alone s
-unfolding tick tickOn
-tick-on s r l =
-    on-true (stateRange alone s) (tickOn alone s) (record { status = 13; state = s; shown = silent }) r
-    ∙ on-true (ltb (s .cycle) 16777215) (afterTick alone s) (record { status = 12; state = s; shown = silent }) l
-
 -- so many offers, each without the test
 plain : ℕ → State
 plain zero = freshState alone
@@ -129,13 +120,13 @@ ranges (suc k) = offer-in-range alone (offered k) read (ranges k)
 plainly : (k : ℕ) → offered k ≡ plain k
 unfolding offered plain
 plainly zero = refl
-plainly (suc k) = ap (λ (o : Offered). o .state) (offer-on (offered k) (ranges k)) ∙ ap (λ (s : State). offerOn s read .state) (plainly k)
+plainly (suc k) = ap (λ (o : Offered). o .state) (offer-is alone (offered k) (ranges k) read) ∙ ap (λ (s : State). offerOn s read .state) (plainly k)
 
 plain-ranges : (k : ℕ) → stateRange alone (plain k) ≡ true
 plain-ranges k = ap (stateRange alone) (sym (plainly k)) ∙ ranges k
 
 status : (k : ℕ) → offer alone (offered k) read .status ≡ offerOn (plain k) read .status
-status k = ap (λ (s : State). offer alone s read .status) (plainly k) ∙ ap (λ (o : Offered). o .status) (offer-on (plain k) (plain-ranges k))
+status k = ap (λ (s : State). offer alone s read .status) (plainly k) ∙ ap (λ (o : Offered). o .status) (offer-is alone (plain k) (plain-ranges k) read)
 
 eighth : offerOn (plain 7) read .status ≡ 0
 unfolding plain read offerOn offerStatus queuesAfter enqueue headOf lengthOf place wordOf classFits bankAndKindFit freshState stateAtStart emptyQueues nothingInFlight zeros alone example policyOf
@@ -149,18 +140,23 @@ at-first : ltb (plain 8 .cycle) 16777215 ≡ true
 unfolding plain offerOn freshState stateAtStart
 at-first = refl
 
+activates : afterTick alone (plain 8) .shown .wires ≡ Activate read
+unfolding plain read offerOn offerStatus queuesAfter enqueue headOf lengthOf place wordOf classFits bankAndKindFit freshState stateAtStart emptyQueues nothingInFlight alone afterTick turnsAt turnStarts turnNumber canActivate drive dueAt waitingAt dequeue kindOf bankOf gapMet gapsMetBy gapsMet offsetAllows example policyOf listOf every some first count setOf sum member includes size nth belowMask flowsIn strictlyIn leastAt leastIn betweenIn coversIn coverSet capIn minimumsAbove least zeros moved movedPointer named takesBy takes tryClass charge reaches nextLeft elides leftAtStart ownedBy startTurn requestOf classOf tagOf
+activates = refl
+
 after-activate : offerOn (afterTick alone (plain 8) .state) read .status ≡ 0
 unfolding plain read offerOn offerStatus queuesAfter enqueue headOf lengthOf place wordOf classFits bankAndKindFit freshState stateAtStart emptyQueues nothingInFlight alone afterTick turnsAt turnStarts turnNumber canActivate drive dueAt waitingAt dequeue kindOf bankOf gapMet gapsMetBy gapsMet offsetAllows example policyOf listOf every some first count setOf sum member includes size nth belowMask flowsIn strictlyIn leastAt leastIn betweenIn coversIn coverSet capIn minimumsAbove least zeros moved movedPointer named takesBy takes tryClass charge reaches nextLeft elides leftAtStart ownedBy startTurn
 after-activate = refl
 
-f : (offer alone (offered 7) read .status ≡ 0) × (offer alone (offered 8) read .status ≡ 11) × (offer alone (tick alone (offered 8) .state) read .status ≡ 0)
+f : (offer alone (offered 7) read .status ≡ 0) × (offer alone (offered 8) read .status ≡ 11) × (tick alone (offered 8) .shown .wires ≡ Activate read) × (offer alone (tick alone (offered 8) .state) read .status ≡ 0)
 f =
-    let ticked = ap (tick alone) (plainly 8) ∙ tick-on (plain 8) (plain-ranges 8) at-first in
+    let ticked = ap (tick alone) (plainly 8) ∙ tick-is alone (plain 8) (plain-ranges 8) at-first in
     let after = ap (λ (t : Ticked). t .state) ticked in
-    let range = ap (stateRange alone) (sym (ap (λ (t : Ticked). t .state) (tick-on (plain 8) (plain-ranges 8) at-first))) ∙ tick-in-range alone (plain 8) (plain-ranges 8) in (
+    let range = ap (stateRange alone) (sym (ap (λ (t : Ticked). t .state) (tick-is alone (plain 8) (plain-ranges 8) at-first))) ∙ tick-in-range alone (plain 8) (plain-ranges 8) in (
       status 7 ∙ eighth,
       status 8 ∙ ninth,
-      ap (λ (s : State). offer alone s read .status) after ∙ ap (λ (o : Offered). o .status) (offer-on (afterTick alone (plain 8) .state) range) ∙ after-activate,
+      ap (λ (t : Ticked). t .shown .wires) ticked ∙ activates,
+      ap (λ (s : State). offer alone s read .status) after ∙ ap (λ (o : Offered). o .status) (offer-is alone (afterTick alone (plain 8) .state) range read) ∙ after-activate,
     )
 
 pub worked-turns : WorkedTurns

@@ -55,7 +55,7 @@ afterTick p s =
       state =
           record { cycle = t + 1; classes = s .classes; queues = driven .queues; turns = turns; flight = answered t (driven .flight) };
       shown =
-          record { wires = driven .wires; response = dueAt (driven .flight .responses) t; turn = cond (turnStarts p t) (turnWord turns) 0 };
+          record { wires = driven .wires; response = dueAt (driven .flight .responses) t; turn = turnShown p t turns };
     }
 
 -- a tick on a state in range: 12 is "a tick after 16,777,215 ticks"

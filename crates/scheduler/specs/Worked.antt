@@ -11,6 +11,7 @@ use Rattle.scheduler.specs.Step.{startTurn, turnWord}
 use Rattle.scheduler.specs.Range.{zeros, freshState}
 use Rattle.scheduler.specs.Call.{offer, tick}
 use Rattle.scheduler.specs.declared.Request.{Request}
+use Rattle.scheduler.specs.declared.Wires.the-variants.{Activate}
 use Rattle.scheduler.specs.declared.State.{State}
 
 -- a policy by its rows, its epoch and its minimums, with the timing of the printed log
@@ -67,6 +68,6 @@ pub record WorkedTurns : Type 0 where
   pub e : (p : Policy) → inRange p ≡ true → (k : ℕ) (lengths left pointers : List ℕ) → ((c : ℕ) → getD lengths c 0 ≡ 0)
       → coversOf p (startTurn p k lengths left pointers .owner) ≡ 0
   -- "the eighth offer is taken, the ninth gets 11, and after an activate one more is taken"
-  pub f : (offer alone (offered 7) read .status ≡ 0) × (offer alone (offered 8) read .status ≡ 11) × (offer alone (tick alone (offered 8) .state) read .status ≡ 0)
+  pub f : (offer alone (offered 7) read .status ≡ 0) × (offer alone (offered 8) read .status ≡ 11) × (tick alone (offered 8) .shown .wires ≡ Activate read) × (offer alone (tick alone (offered 8) .state) read .status ≡ 0)
   -- "a sum of minimums equal to E is taken, one equal to E + 1 gets 7"
   pub g : (refusal (pair (1 ∷ 2 ∷ [])) ≡ 0) × (refusal (pair (2 ∷ 2 ∷ [])) ≡ 7)

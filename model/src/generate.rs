@@ -604,6 +604,18 @@ fn trace_numbers(random: &mut Random, policy: &Policy) -> Vec<u32> {
         10 => 0,
         _ => random.between(1, 400),
     };
+    stretches(random, policy, length)
+}
+
+/// A trace of exactly so many numbers for a policy.
+pub fn trace_of_length(random: &mut Random, policy: &Policy, length: usize) -> Vec<u32> {
+    let mut numbers = stretches(random, policy, length);
+    numbers.truncate(length);
+    numbers
+}
+
+/// Whole stretches, of at least so many numbers together.
+fn stretches(random: &mut Random, policy: &Policy, length: usize) -> Vec<u32> {
     let mut writer = TraceWriter {
         random,
         policy,
@@ -747,7 +759,7 @@ impl TraceWriter<'_> {
 }
 
 /// An offer with a bank below a bound, of either kind, with any tag.
-pub(crate) fn sound_offer(random: &mut Random, class: u8, banks: usize) -> u32 {
+pub fn sound_offer(random: &mut Random, class: u8, banks: usize) -> u32 {
     offer_word(&Request {
         class,
         kind: random.below(2) as u8,
@@ -767,19 +779,19 @@ fn noise_word(random: &mut Random, policy: &Policy, class: u8) -> u32 {
 }
 
 /// An offer of a class that does not exist, with bank and kind sound or not.
-pub(crate) fn missing_class_word(random: &mut Random, policy: &Policy) -> u32 {
+pub fn missing_class_word(random: &mut Random, policy: &Policy) -> u32 {
     let class = random.between(policy.class_count(), 31) as u8;
     sound_offer(random, class, 8) | *random.pick(&[0, 8 << 16, 2 << 20])
 }
 
 /// An offer of a bank above 7, of a kind above 1, or of both.
-pub(crate) fn refused_offer(random: &mut Random, class: u8) -> u32 {
+pub fn refused_offer(random: &mut Random, class: u8) -> u32 {
     sound_offer(random, class, 8) | *random.pick(&[8 << 16, 2 << 20, 8 << 16 | 2 << 20])
 }
 
 /// A number of neither form: an offer with a bit set that must be 0, or a
 /// number other than 0 without bit 31.
-pub(crate) fn malformed_word(random: &mut Random) -> u32 {
+pub fn malformed_word(random: &mut Random) -> u32 {
     let any = random.next() as u32;
     match random.below(4) {
         0 => 1,

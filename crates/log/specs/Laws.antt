@@ -1,12 +1,15 @@
--- What holds of every list of calls. `proofs/Laws.antt` proves it.
+-- What holds of every list of calls, and of runs. `proofs/Laws.antt` proves it.
 use mathlib.Core.Path.{_≡_}
-use mathlib.Core.List.{List, _++_}
+use mathlib.Core.Bool.{true}
+use mathlib.Core.List.{List, [], _∷_, _++_}
 use Prim.Native.Nat.{ℕ, _*_}
-use lib.ListN.{length}
+use lib.ListN.{length, take, drop}
 use Rattle.policy.specs.declared.Policy.{Policy}
+use Rattle.scheduler.specs.Range.{inRange}
+use Rattle.scheduler.specs.Calls.{answerTo, stateAfter, logOf}
+use Rattle.scheduler.specs.Run.{hasRoom, run, logAfter}
 use Rattle.scheduler.specs.History.{FromFresh}
 use Rattle.scheduler.specs.declared.State.{State}
-use Rattle.log.specs.Run.{stateAfter, logOf}
 
 pub record RunLaws (p : Policy) : Type 0 where
   -- a list cut in two is the two one after the other
@@ -14,5 +17,14 @@ pub record RunLaws (p : Policy) : Type 0 where
   pub cut-log : (s : State) (xs ys : List ℕ) → logOf p s (xs ++ ys) ≡ logOf p s xs ++ logOf p (stateAfter p s xs) ys
   -- four numbers for each call
   pub four-each : (s : State) (xs : List ℕ) → length (logOf p s xs) ≡ 4 * length xs
-  -- it leads from a state reached from fresh to another
+  -- it leads from a state reached from fresh to another, and from a state in range to another
   pub from-fresh : (s : State) (xs : List ℕ) → FromFresh p s → FromFresh p (stateAfter p s xs)
+  pub in-range-after : (s : State) (xs : List ℕ) → inRange p s ≡ true → inRange p (stateAfter p s xs) ≡ true
+  -- a run over one trace number is that one call
+  pub one-call : (s : State) (w : ℕ) (log : List ℕ) → inRange p s ≡ true → hasRoom (w ∷ []) log ≡ true
+      → (run p s (w ∷ []) log ≡ record { status = 0; state = answerTo p s w .state })
+      × (logAfter p s (w ∷ []) log ≡ answerTo p s w .status ∷ answerTo p s w .command ∷ answerTo p s w .response ∷ answerTo p s w .turn ∷ drop 4 log)
+  -- a run over a list cut in two is the two runs one after the other
+  pub cut-run : (s : State) (xs ys log : List ℕ) → inRange p s ≡ true → hasRoom (xs ++ ys) log ≡ true
+      → (run p s (xs ++ ys) log ≡ run p (run p s xs log .state) ys (drop (4 * length xs) log))
+      × (logAfter p s (xs ++ ys) log ≡ take (4 * length xs) (logAfter p s xs log) ++ logAfter p (run p s xs log .state) ys (drop (4 * length xs) log))

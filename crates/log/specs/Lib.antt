@@ -1,8 +1,4 @@
--- The definitions of the crate `log`, in reading order. Beside each, the part of document 01 that it carries.
+-- What holds of runs. The definition of a run stands in the crate `scheduler` (`specs/Trace.antt`, `specs/Calls.antt`, `specs/Run.antt`).
 
--- "Trace, log and extract": trace words told apart
-pub mod Trace
--- "Trace, log and extract": a list of calls, the state after it and its log
-pub mod Run
--- a list of calls cut in two
+-- "A list's log is the four numbers of each call in order, as one run over the whole list writes them": lists of calls and runs cut in two
 pub mod Laws

@@ -1,28 +1,17 @@
-// The log: trace words told apart.
+// The log: a run reads a trace and writes its log.
 
 ghost use mathlib.Core.Path.{_≡_};
-ghost use Rattle.log.specs.Trace.{callOf};
-use scheduler::Request;
-use scheduler::words;
+ghost use Rattle.scheduler.specs.Run.{run, logAfter};
+use policy::Policy;
+use scheduler::State;
+use scheduler::trace;
+use scheduler::trace::Ran;
 
-// What a trace word is.
-pub enum Call {
-    Tick,
-    Offer(Request),
-    // Of neither form.
-    Malformed,
-}
-
-// A trace word told apart: 0 is a tick; a word that has the form of an offer is one, whatever its class, bank and kind.
-pub fn call_of(word: u32) -> Call
-    ensures { λ r. ⌜ r ≡ callOf word ⌝ }
+// A run over a trace: 13, 15; else each trace number's call in order, whose four numbers go into the log. Numbers past them stay, and a refused run writes nothing.
+// The loop stands in the scheduler, beside the calls that it makes in place.
+pub fn run(p: Policy, s: State, trace: &[u32], log: &mut [u32]) -> Ran
+    ensures { λ r. ⌜ r ≡ run p s (now (trace .entry)) (now (log .entry)) ⌝ }
+    ensures { λ r. ⌜ now (log .exit) ≡ logAfter p s (now (trace .entry)) (now (log .entry)) ⌝ }
 {
-    if word == 0 {
-        return Call::Tick;
-    }
-    if words::is_offer(word) {
-        let r = words::request_of(word);
-        return Call::Offer(r);
-    }
-    Call::Malformed
+    trace::run(p, s, trace, log)
 }

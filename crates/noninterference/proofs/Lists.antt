@@ -14,10 +14,10 @@ use Rattle.scheduler.specs.History.{FromFresh, at-first}
 use Rattle.scheduler.specs.declared.State.{State}
 use Rattle.scheduler.proofs.Climbing.{on-true, on-false}
 use Rattle.scheduler.proofs.Steady.{held}
-use Rattle.log.specs.Trace.{callOf}
-use Rattle.log.specs.Run.{answer, answerTo, stateAfter}
-use Rattle.log.specs.declared.Call.{Call}
-use Rattle.log.specs.declared.Call.the-variants.{Tick, Offer, Malformed}
+use Rattle.scheduler.specs.Trace.{callOf}
+use Rattle.scheduler.specs.Calls.{answer, answerTo, stateAfter}
+use Rattle.scheduler.specs.declared.trace.Call.{Call}
+use Rattle.scheduler.specs.declared.trace.Call.the-variants.{Tick, Offer, Malformed}
 use Rattle.log.proofs.Laws.{one-call as reached}
 use Rattle.noninterference.specs.Low.{Downward, OwnersAgree}
 use Rattle.noninterference.specs.Alike.{Alike}

@@ -10,10 +10,10 @@ use Rattle.policy.specs.declared.Policy.{Policy}
 use Rattle.scheduler.specs.Queue.{waiting}
 use Rattle.scheduler.specs.Range.{freshState}
 use Rattle.scheduler.specs.declared.State.{State}
-use Rattle.log.specs.Trace.{callOf}
-use Rattle.log.specs.Run.{stateAfter}
-use Rattle.log.specs.declared.Call.{Call}
-use Rattle.log.specs.declared.Call.the-variants.{Tick, Offer, Malformed}
+use Rattle.scheduler.specs.Trace.{callOf}
+use Rattle.scheduler.specs.Calls.{stateAfter}
+use Rattle.scheduler.specs.declared.trace.Call.{Call}
+use Rattle.scheduler.specs.declared.trace.Call.the-variants.{Tick, Offer, Malformed}
 
 -- a class that does not exist is not low, so its offers are struck out
 unfoldable pub stays : (ℕ → Bool) → Call → Bool

@@ -16,3 +16,5 @@ pub mod Numbered
 pub mod Laws
 -- of files: when one is taken, and with which number it is refused
 pub mod Taken
+-- of stores into a slice
+pub mod Stores

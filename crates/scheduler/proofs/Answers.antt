@@ -1,13 +1,20 @@
--- Calls on a state in range, without the test.
+-- Calls on a state in range, without the test, and the answers to trace words.
 -- Assumes nothing.
-use mathlib.Core.Path.{_≡_, _∙_}
+use mathlib.Core.Path.{_≡_, ap, _∙_}
 use mathlib.Core.Bool.{true, false}
 use lib.Dec.{ltb}
 use Rattle.policy.specs.declared.Policy.{Policy}
+use Prim.Native.Nat.{ℕ}
+use Rattle.scheduler.specs.Word.{commandNumber}
 use Rattle.scheduler.specs.Range.{inRange}
 use Rattle.scheduler.specs.Call.{offerOn, offer, silent, afterTick, tickOn, tick}
+use Rattle.scheduler.specs.Trace.{callOf}
+use Rattle.scheduler.specs.Calls.{Answer, answer, answerTo}
 use Rattle.scheduler.specs.declared.Request.{Request}
 use Rattle.scheduler.specs.declared.State.{State}
+use Rattle.scheduler.specs.declared.Ticked.{Ticked}
+use Rattle.scheduler.specs.declared.Offered.{Offered}
+use Rattle.scheduler.specs.declared.trace.Call.the-variants.{Tick, Offer, Malformed}
 use Rattle.scheduler.proofs.Climbing.{on-true, on-false}
 
 module _ (p : Policy) (s : State) (given : inRange p s ≡ true) where
@@ -27,3 +34,23 @@ module _ (p : Policy) (s : State) (given : inRange p s ≡ true) where
   tick-late e =
       on-true (inRange p s) (tickOn p s) (record { status = 13; state = s; shown = silent }) given
       ∙ on-false (ltb (s .cycle) 16777215) (afterTick p s) (record { status = 12; state = s; shown = silent }) e
+
+-- what a trace word's answer takes from a tick and from an offer
+abbrev pub ticked : Ticked → Answer
+ticked t = record { state = t .state; status = t .status; command = commandNumber (t .shown .wires); response = t .shown .response; turn = t .shown .turn }
+
+abbrev pub offered : Offered → Answer
+offered o = record { state = o .state; status = o .status; command = 0; response = 0; turn = 0 }
+
+module _ (p : Policy) (s : State) (w : ℕ) where
+  pub called-tick : callOf w ≡ Tick → answerTo p s w ≡ ticked (tick p s)
+  unfolding answerTo answer
+  called-tick e = ap (answer p s) e
+
+  pub called-offer : (r : Request) → callOf w ≡ Offer r → answerTo p s w ≡ offered (offer p s r)
+  unfolding answerTo answer
+  called-offer r e = ap (answer p s) e
+
+  pub called-malformed : callOf w ≡ Malformed → answerTo p s w ≡ record { state = s; status = 14; command = 0; response = 0; turn = 0 }
+  unfolding answerTo answer
+  called-malformed e = ap (answer p s) e

@@ -14,13 +14,13 @@ use Rattle.scheduler.specs.History.{turnBefore, untilTurn}
 
 -- ---- remainders
 
-next-within : (t m : ℕ) → t % m + 1 < m → (t + 1) % m ≡ t % m + 1
+pub next-within : (t m : ℕ) → t % m + 1 < m → (t + 1) % m ≡ t % m + 1
 next-within t m l =
     let one : t + 1 ≡ suc t = omega arith in
     let two : suc (t % m) ≡ t % m + 1 = omega arith in
     ap (λ (k : ℕ). k % m) one ∙ suc-mod t m ∙ ap (λ (k : ℕ). k % m) two ∙ mod-eq-of-lt l
 
-next-wraps : (t m : ℕ) → t % m + 1 ≡ m → (t + 1) % m ≡ 0
+pub next-wraps : (t m : ℕ) → t % m + 1 ≡ m → (t + 1) % m ≡ 0
 next-wraps t m e =
     let one : t + 1 ≡ suc t = omega arith in
     let two : suc (t % m) ≡ m = omega (arith, e) in

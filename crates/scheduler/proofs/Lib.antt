@@ -34,3 +34,7 @@ pub mod Steady
 pub mod Laws
 -- of the definitions: document 01's worked turns
 pub mod Worked
+-- of lists of calls
+pub mod Listed
+-- of a run's refusals
+pub mod Sides

@@ -43,7 +43,7 @@ silent = record { wires = Nothing; response = 0; turn = 0 }
 
 -- "1 + owner, plus 256 if the dead time is dropped", where a turn starts
 unfoldable pub turnShown : Policy → ℕ → Turns → ℕ
-turnShown p t turns = cond (turnStarts p t) (turnWord turns) 0
+turnShown p t turns = cond (turnStarts p t) (turnWord (turns .owner) (turns .elided)) 0
 
 unfoldable pub afterTick : Policy → State → Ticked
 afterTick p s =

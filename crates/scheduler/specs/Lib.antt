@@ -20,6 +20,14 @@ pub mod Step
 pub mod Range
 -- the answers of the public calls
 pub mod Call
+-- "Trace, log and extract": trace words told apart
+pub mod Trace
+-- "Trace, log and extract": a list of calls, the state after it and its log
+pub mod Calls
+-- "Trace, log and extract": a run, and what it refuses
+pub mod Run
+-- what is worked on in place
+pub mod InPlace
 -- "Worked turns"
 pub mod Worked
 -- the states reached from fresh, and what holds of them

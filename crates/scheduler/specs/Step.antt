@@ -49,8 +49,8 @@ unfoldable pub turnsAt : Policy → ℕ → List ℕ → Turns → Turns
 turnsAt p t lengths turns = elim (turnStarts p t) [ true ↦ startTurn p (turnNumber p t) lengths (turns .left) (turns .pointers) | false ↦ turns ]
 
 -- "Turn is 0 unless a turn starts, then 1 + owner, plus 256 if the dead time is dropped."
-unfoldable pub turnWord : Turns → ℕ
-turnWord turns = 1 + turns .owner + cond (turns .elided) 256 0
+unfoldable pub turnWord : ℕ → Bool → ℕ
+turnWord owner elided = 1 + owner + cond elided 256 0
 
 -- ---- 2
 

@@ -40,7 +40,7 @@ unfoldable pub turnsFrom : Policy → List ℕ → ℕ → ℕ → List ℕ → 
 turnsFrom p lengths zero k left pointers = []
 turnsFrom p lengths (suc count) k left pointers =
     let turns = startTurn p k lengths left pointers in
-    turnWord turns ∷ turnsFrom p lengths count (k + 1) (turns .left) (turns .pointers)
+    turnWord (turns .owner) (turns .elided) ∷ turnsFrom p lengths count (k + 1) (turns .left) (turns .pointers)
 
 unfoldable pub firstTurns : Policy → List ℕ → ℕ → List ℕ
 firstTurns p lengths count = turnsFrom p lengths count 0 (p .caps) (zeros 16)

@@ -1,7 +1,7 @@
 // The command wires: a due column command, or an activate of the head of the owner's queue.
 
 ghost use mathlib.Core.Path.{_≡_};
-ghost use Prim.Native.Nat.{_<_};
+ghost use Prim.Native.Nat.{_%_, _<_};
 ghost use Rattle.policy.specs.Laws.{TimingLaws};
 ghost use Rattle.scheduler.specs.Word.{kindOf, bankOf};
 ghost use Rattle.scheduler.specs.Wire.{dueAt, sentAt, activateAt, gapMet, offsetAllows, gapsMetBy, activated};
@@ -47,11 +47,11 @@ fn gaps_met(timing: Timing, last: u32, of_bank: u32, kind: u32, cycle: u32) -> b
 }
 
 // The owner may activate before the dead time, or at all offsets if it is elided.
-fn offset_allows(timing: Timing, elided: bool, cycle: u32) -> bool
-    requires { ⌜ TimingLaws timing ⌝ }
+fn offset_allows(timing: Timing, elided: bool, cycle: u32, offset: u32) -> bool
+    requires { ⌜ TimingLaws timing × (offset ≡ cycle % timing .turn) ⌝ }
     ensures { λ r. ⌜ r ≡ offsetAllows timing elided cycle ⌝ }
 {
-    elided | (cycle % timing.turn < timing.turn - timing.dead)
+    elided | (offset < timing.turn - timing.dead)
 }
 
 // An activate brings its column command and its response after their delays, and is the last activate of its bank and of all.
@@ -80,6 +80,7 @@ fn activate(
 pub(crate) fn drive(
     timing: Timing,
     cycle: u32,
+    offset: u32,
     owner: usize,
     elided: bool,
     slots: &[u32; 128],
@@ -90,7 +91,7 @@ pub(crate) fn drive(
     banks: &mut [u32; 8],
     last: u32,
 ) -> Drove
-    requires { ⌜ Ready timing cycle owner (record { slots = now slots; heads = now heads; lengths = now lengths }) ⌝ }
+    requires { ⌜ Ready timing cycle owner (record { slots = now slots; heads = now heads; lengths = now lengths }) × (offset ≡ cycle % timing .turn) ⌝ }
     ensures { λ r. ⌜ record { wires = r .wires; queues = record { slots = now (slots .entry); heads = now (heads .exit); lengths = now (lengths .exit) }; flight = record { columns = now (columns .exit); responses = now (responses .exit); banks = now (banks .exit); last = r .last } } ≡ drive timing cycle owner elided (record { slots = now (slots .entry); heads = now (heads .entry); lengths = now (lengths .entry) }) (record { columns = now (columns .entry); responses = now (responses .entry); banks = now (banks .entry); last = last }) ⌝ }
 {
     let at = (cycle % 32) as usize;
@@ -100,7 +101,7 @@ pub(crate) fn drive(
         let wires = Wires::Column(words::request_of(due));
         return Drove { wires, last };
     }
-    if !offset_allows(timing, elided, cycle) {
+    if !offset_allows(timing, elided, cycle, offset) {
         return Drove {
             wires: Wires::Nothing,
             last,

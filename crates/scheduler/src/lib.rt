@@ -4,9 +4,7 @@ ghost use mathlib.Core.Path.{_≡_};
 ghost use Rattle.scheduler.specs.Range.{emptyQueues, nothingInFlight, stateAtStart, countsInRange, flightInRange, stateInRange, inRange};
 ghost use Prim.Native.Nat.{_<_};
 ghost use mathlib.Core.Bool.{true};
-ghost use Rattle.policy.specs.Policy.{inRange as policyInRange};
-ghost use Rattle.scheduler.specs.Step.{turnsAt};
-ghost use Rattle.scheduler.specs.Call.{fresh, offer, turnShown, silent, afterTick, tick};
+ghost use Rattle.scheduler.specs.Call.{fresh, offer, silent, afterTick, tick};
 use policy::Policy;
 use policy::Timing;
 
@@ -14,6 +12,8 @@ mod driving;
 mod lookahead;
 mod queueing;
 mod range;
+mod ticking;
+pub mod trace;
 mod traversal;
 mod turning;
 pub mod words;
@@ -242,37 +242,6 @@ pub fn offer(p: Policy, s: State, r: Request) -> Offered
     Offered { status, state }
 }
 
-// The turns as a tick has them: a turn starts at each multiple of the turn length.
-fn turns_at(p: Policy, cycle: u32, lengths: &[usize; 16], turns: Turns) -> Turns
-    requires { ⌜ (policyInRange p ≡ true) × (cycle < 16777215) ⌝ }
-    ensures { λ r. ⌜ r ≡ turnsAt p cycle (now (lengths .entry)) turns ⌝ }
-{
-    let timing = p.timing;
-    if cycle % timing.turn != 0 {
-        return turns;
-    }
-    let left = turns.left;
-    let pointers = turns.pointers;
-    turning::start_turn(p, cycle / timing.turn, lengths, left, pointers)
-}
-
-// The turn's number in the log: 0 unless one starts.
-fn turn_shown(p: Policy, cycle: u32, turns: Turns) -> u32
-    requires { ⌜ (policyInRange p ≡ true) × (turns .owner < 16) ⌝ }
-    ensures { λ r. ⌜ r ≡ turnShown p cycle turns ⌝ }
-{
-    let timing = p.timing;
-    if cycle % timing.turn != 0 {
-        return 0;
-    }
-    let owner = turns.owner as u32;
-    if turns.elided {
-        1 + owner + 256
-    } else {
-        1 + owner + 0
-    }
-}
-
 // What a refused tick shows: nothing.
 fn silent() -> Record
     ensures { λ r. ⌜ r ≡ silent ⌝ }
@@ -289,57 +258,49 @@ fn step(s: State, p: Policy) -> Ticked
     requires { ⌜ (inRange p s ≡ true) × (s .cycle < 16777215) ⌝ }
     ensures { λ r. ⌜ r ≡ afterTick p s ⌝ }
 {
-    let cycle = s.cycle;
-    let before = s.queues;
-    let slots = before.slots;
-    let mut heads = before.heads;
-    let mut lengths = before.lengths;
+    let m = ticking::moment_of(p, s);
+    let rows = p.rows;
+    let covers = p.covers;
+    let caps = p.caps;
+    let queues = s.queues;
+    let slots = queues.slots;
+    let mut heads = queues.heads;
+    let mut lengths = queues.lengths;
+    let turns = s.turns;
+    let mut left = turns.left;
+    let mut pointers = turns.pointers;
     let flight = s.flight;
     let mut columns = flight.columns;
     let mut responses = flight.responses;
     let mut banks = flight.banks;
-    let timing = p.timing;
-    let old = s.turns;
-    let turns = turns_at(p, cycle, &lengths, old);
-    let drove = driving::drive(
-        timing,
-        cycle,
-        turns.owner,
-        turns.elided,
+    let after = ticking::tick_in_place(
+        p,
+        m,
+        &rows,
+        &covers,
+        &caps,
         &slots,
         &mut heads,
         &mut lengths,
+        &mut left,
+        &mut pointers,
         &mut columns,
         &mut responses,
         &mut banks,
-        flight.last,
     );
-    let response = driving::answer(cycle, &mut responses);
-    let turn = turn_shown(p, cycle, turns);
-    let queues = Queues {
+    let moment = after.moment;
+    let shown = after.shown;
+    let state = ticking::state_of(
+        moment,
         slots,
         heads,
         lengths,
-    };
-    let flying = Flight {
+        left,
+        pointers,
         columns,
         responses,
         banks,
-        last: drove.last,
-    };
-    let wires = drove.wires;
-    let shown = Record {
-        wires,
-        response,
-        turn,
-    };
-    let state = State {
-        cycle: cycle + 1,
-        classes: s.classes,
-        queues,
-        turns,
-        flight: flying,
-    };
+    );
     Ticked {
         status: 0,
         state,

@@ -1,36 +1,32 @@
-// A turn's start: the turns left at an epoch's start, the traversal, the charge, and whether the dead time is elided.
+// A turn's start, in place: the turns left at an epoch's start, the traversal, the charge, and whether the dead time is elided. The policy's arrays are lent beside
+// the policy, so that none is copied where a turn starts.
 
 ghost use mathlib.Core.Path.{_≡_};
-ghost use mathlib.Core.Bool.{true};
-ghost use Prim.Native.Nat.{_-_, _<_};
+ghost use mathlib.Core.Bool.{true, cond};
+ghost use Prim.Native.Nat.{_-_, _%_, _<_};
+ghost use lib.ListN.{length};
 ghost use Rattle.policy.specs.Policy.{inRange};
 ghost use Rattle.scheduler.specs.Traversal.{charge};
-ghost use Rattle.scheduler.specs.Lookahead.{nextLeft};
-ghost use Rattle.scheduler.specs.Step.{leftAtStart, startTurn};
-use super::Turns;
+ghost use Rattle.scheduler.specs.Lookahead.{elides};
+ghost use Rattle.scheduler.specs.Step.{leftAtStart, startTurn, turnsAt, turnWord};
+ghost use Rattle.scheduler.specs.InPlace.{Lent};
 use super::lookahead;
 use super::traversal;
 use policy::Policy;
 
-// The turns left as a turn starts: the caps, at an epoch's start.
-fn left_at_start(p: Policy, number: u32, left: [u32; 16]) -> [u32; 16]
-    requires { ⌜ inRange p ≡ true ⌝ }
-    ensures { λ r. ⌜ r ≡ leftAtStart p number left ⌝ }
-{
-    let caps = p.caps;
-    if number % p.epoch == 0 { caps } else { left }
+// Who has the turn, and whether its dead time is elided.
+pub struct Owned {
+    pub owner: usize,
+    pub elided: bool,
 }
 
-// The turns left that the lookahead goes by: the caps, in an epoch's last turn.
-fn next_left(p: Policy, number: u32, left: [u32; 16]) -> [u32; 16]
-    requires { ⌜ (inRange p ≡ true) × (number < 1000000000) ⌝ }
-    ensures { λ r. ⌜ r ≡ nextLeft p number left ⌝ }
+// The turns left as a turn starts: the caps, at an epoch's start.
+fn left_at_start(p: Policy, number: u32, caps: &[u32; 16], left: &mut [u32; 16])
+    requires { ⌜ (inRange p ≡ true) × (now caps ≡ p .caps) ⌝ }
+    ensures { λ r. ⌜ now (left .exit) ≡ leftAtStart p number (now (left .entry)) ⌝ }
 {
-    let caps = p.caps;
-    if (number + 1) % p.epoch == 0 {
-        caps
-    } else {
-        left
+    if number % p.epoch == 0 {
+        *left = *caps;
     }
 }
 
@@ -41,39 +37,102 @@ fn one_less(left: u32) -> u32
 }
 
 // The owner's turns left fall by 1, not below 0.
-fn charge(left: [u32; 16], owner: usize) -> [u32; 16]
+fn charge(left: &mut [u32; 16], owner: usize)
     requires { ⌜ owner < 16 ⌝ }
-    ensures { λ r. ⌜ r ≡ charge left owner ⌝ }
+    ensures { λ r. ⌜ now (left .exit) ≡ charge (now (left .entry)) owner ⌝ }
 {
-    let mut after = left;
-    after[owner] = one_less(left[owner]);
-    after
+    left[owner] = one_less(left[owner]);
+}
+
+// Whether the owner's dead time is elided: the lookahead goes by the caps, in an epoch's last turn.
+fn elides(
+    p: Policy,
+    bottom: usize,
+    number: u32,
+    rows: &[u16; 16],
+    covers: &[u16; 16],
+    caps: &[u32; 16],
+    left: &[u32; 16],
+    pointers: &[usize; 16],
+    owner: usize,
+) -> bool
+    requires { ⌜ (inRange p ≡ true) × (number < 1000000000) × Lent p bottom (now rows) (now covers) (now caps) ⌝ }
+    ensures { λ r. ⌜ r ≡ elides p number (now (left .entry)) (now (pointers .entry)) owner ⌝ }
+{
+    if (number + 1) % p.epoch == 0 {
+        return lookahead::reaches(rows, covers, caps, pointers, owner, bottom);
+    }
+    lookahead::reaches(rows, covers, left, pointers, owner, bottom)
 }
 
 // Starts the turn with the given number.
-pub(crate) fn start_turn(
+fn start_turn(
     p: Policy,
+    bottom: usize,
     number: u32,
+    rows: &[u16; 16],
+    covers: &[u16; 16],
+    caps: &[u32; 16],
     lengths: &[usize; 16],
-    left: [u32; 16],
-    pointers: [usize; 16],
-) -> Turns
-    requires { ⌜ (inRange p ≡ true) × (number < 1000000000) ⌝ }
-    ensures { λ r. ⌜ r ≡ startTurn p number (now (lengths .entry)) left pointers ⌝ }
+    left: &mut [u32; 16],
+    pointers: &mut [usize; 16],
+) -> Owned
+    requires { ⌜ (inRange p ≡ true) × (number < 1000000000) × Lent p bottom (now rows) (now covers) (now caps) × (length (now pointers) ≡ 16) ⌝ }
+    ensures { λ r. ⌜ record { owner = r .owner; elided = r .elided; left = now (left .exit); pointers = now (pointers .exit) } ≡ startTurn p number (now (lengths .entry)) (now (left .entry)) (now (pointers .entry)) ⌝ }
 {
-    let rows = p.rows;
-    let covers = p.covers;
-    let least = policy::order::least_in(p.classes, rows);
-    let full = left_at_start(p, number, left);
-    let mut moved = pointers;
-    let owner = traversal::try_class(&rows, &covers, lengths, &full, &mut moved, least);
-    let after = charge(full, owner);
-    let next = next_left(p, number, after);
-    let elided = lookahead::reaches(&rows, &covers, &next, &moved, owner, least);
-    Turns {
-        owner,
-        elided,
-        left: after,
-        pointers: moved,
+    left_at_start(p, number, caps, left);
+    let owner = traversal::try_class(rows, covers, lengths, left, pointers, bottom);
+    charge(left, owner);
+    let elided = elides(p, bottom, number, rows, covers, caps, left, pointers, owner);
+    Owned { owner, elided }
+}
+
+// The turns as a tick has them: a turn starts at each multiple of the turn length.
+pub(crate) fn turns_at(
+    p: Policy,
+    bottom: usize,
+    cycle: u32,
+    offset: u32,
+    rows: &[u16; 16],
+    covers: &[u16; 16],
+    caps: &[u32; 16],
+    lengths: &[usize; 16],
+    before: Owned,
+    left: &mut [u32; 16],
+    pointers: &mut [usize; 16],
+) -> Owned
+    requires { ⌜ (inRange p ≡ true) × (cycle < 16777215) × (offset ≡ cycle % p .timing .turn) × Lent p bottom (now rows) (now covers) (now caps) × (length (now pointers) ≡ 16) ⌝ }
+    ensures { λ r. ⌜ record { owner = r .owner; elided = r .elided; left = now (left .exit); pointers = now (pointers .exit) } ≡ turnsAt p cycle (now (lengths .entry)) (record { owner = before .owner; elided = before .elided; left = now (left .entry); pointers = now (pointers .entry) }) ⌝ }
+{
+    if offset != 0 {
+        return before;
+    }
+    let timing = p.timing;
+    start_turn(
+        p,
+        bottom,
+        cycle / timing.turn,
+        rows,
+        covers,
+        caps,
+        lengths,
+        left,
+        pointers,
+    )
+}
+
+// The turn's number in the log: 0 unless one starts.
+pub(crate) fn turn_shown(starts: bool, owned: Owned) -> u32
+    requires { ⌜ owned .owner < 16 ⌝ }
+    ensures { λ r. ⌜ r ≡ cond starts (turnWord (owned .owner) (owned .elided)) 0 ⌝ }
+{
+    if !starts {
+        return 0;
+    }
+    let owner = owned.owner as u32;
+    if owned.elided {
+        1 + owner + 256
+    } else {
+        1 + owner + 0
     }
 }

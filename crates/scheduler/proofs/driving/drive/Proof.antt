@@ -46,10 +46,10 @@ word-is c = ap (λ (k : ℕ). getD (c .before .before .before .before .before .b
 
 -- and so it has a bank and a kind
 head-bank : (c : tie.After-place) → bankOf (getD (c .before .before .before .before .before .before .before .before .args .slots .now) (c .place .result) 0) < 8
-head-bank c = subst (λ (w : ℕ). bankOf w < 8) (sym (word-is c)) (c .before .before .before .before .before .before .before .before .pre .head-bank (waits (c .before .before)))
+head-bank c = subst (λ (w : ℕ). bankOf w < 8) (sym (word-is c)) (c .before .before .before .before .before .before .before .before .pre .0 .head-bank (waits (c .before .before)))
 
 head-kind : (c : tie.After-place) → kindOf (getD (c .before .before .before .before .before .before .before .before .args .slots .now) (c .place .result) 0) < 2
-head-kind c = subst (λ (w : ℕ). kindOf w < 2) (sym (word-is c)) (c .before .before .before .before .before .before .before .before .pre .head-kind (waits (c .before .before)))
+head-kind c = subst (λ (w : ℕ). kindOf w < 2) (sym (word-is c)) (c .before .before .before .before .before .before .before .before .pre .0 .head-kind (waits (c .before .before)))
 
 -- the offset allows an activate
 allowed : (c : tie.Else2) → offsetAllows (c .before .before .before .before .args .timing) (c .before .before .before .before .args .elided) (c .before .before .before .before .args .cycle) ≡ true
@@ -117,15 +117,15 @@ element-copy-out-place c = search needs
 
 place-requires : tie.Need-place-requires
 unfolding headOf
-place-requires c κs = (c .before .before .before .before .before .before .before .pre .class, c .before .before .before .before .before .before .before .pre .in-ring, omega arith)
+place-requires c κs = (c .before .before .before .before .before .before .before .pre .0 .class, c .before .before .before .before .before .before .before .pre .0 .in-ring, omega arith)
 
 mul-word : tie.Need-mul-word
 unfolding place
-mul-word c = let owner = c .before .before .before .before .before .before .before .before .pre .class in omega (arith, c .place .ensures)
+mul-word c = let owner = c .before .before .before .before .before .before .before .before .pre .0 .class in omega (arith, c .place .ensures)
 
 element-copy-out-word : tie.Need-element-copy-out-word
 unfolding place
-element-copy-out-word c = let owner = c .before .before .before .before .before .before .before .before .pre .class in omega (arith, c .place .ensures)
+element-copy-out-word c = let owner = c .before .before .before .before .before .before .before .before .pre .0 .class in omega (arith, c .place .ensures)
 
 cast-bank : tie.Need-cast-bank
 cast-bank c = search needs
@@ -139,7 +139,7 @@ element-copy-out-gaps-met c = head-bank (c .before)
 
 gaps-met-requires : tie.Need-gaps-met-requires
 unfolding kindOf
-gaps-met-requires c κs = (c .before .before .before .before .before .before .before .before .before .before .pre .timed, head-kind (c .before .before), c .before .before .before .before .before .before .before .before .before .before .pre .ticks-left)
+gaps-met-requires c κs = (c .before .before .before .before .before .before .before .before .before .before .pre .0 .timed, head-kind (c .before .before), c .before .before .before .before .before .before .before .before .before .before .pre .0 .ticks-left)
 
 returns-4 : tie.Need-returns-4
 unfolding canActivate
@@ -152,10 +152,10 @@ unfolding headOf lengthOf
 dequeue-requires c κs =
     let start = c .before .before .before .before .before .before .before .before .before .before .before .before .before .before in
     let some : 0 < lengthOf (queues-of (c .before .before .before .before .before .before .before .before .before .before .before .before .before .before)) (start .args .owner) = lt-of-le-ne zero-le (λ e. waits (c .before .before .before .before .before .before .before .before) (sym e)) in
-    (start .pre .class, start .pre .in-ring, some)
+    (start .pre .0 .class, start .pre .0 .in-ring, some)
 
 activate-requires : tie.Need-activate-requires
-activate-requires c κs = (c .before .before .before .before .before .before .before .before .before .before .before .before .before .before .before .before .before .before .pre .timed, c .before .before .before .before .before .before .before .before .before .before .before .before .before .before .before .before .before .before .pre .ticks-left, head-bank (c .before .before .before .before .before .before .before .before .before .before), head-kind (c .before .before .before .before .before .before .before .before .before .before))
+activate-requires c κs = (c .before .before .before .before .before .before .before .before .before .before .before .before .before .before .before .before .before .before .pre .0 .timed, c .before .before .before .before .before .before .before .before .before .before .before .before .before .before .before .before .before .before .pre .0 .ticks-left, head-bank (c .before .before .before .before .before .before .before .before .before .before), head-kind (c .before .before .before .before .before .before .before .before .before .before))
 
 request-of-requires-2 : tie.Need-request-of-requires-2
 request-of-requires-2 c κs = search needs

@@ -8,17 +8,17 @@ use Rattle.scheduler.proofs.turning.charge.Tie as tie
 mul-one-less : tie.Need-mul-one-less
 mul-one-less c = search needs
 
-array-read-one-less : tie.Need-array-read-one-less
-array-read-one-less c = search needs
+element-copy-out-one-less : tie.Need-element-copy-out-one-less
+element-copy-out-one-less c = search needs
 
 one-less-requires : tie.Need-one-less-requires
 one-less-requires c κs = search needs
 
-mul-after : tie.Need-mul-after
-mul-after c = search needs
+mul-left : tie.Need-mul-left
+mul-left c = search needs
 
-array-write-after : tie.Need-array-write-after
-array-write-after c = search needs
+element-write-left : tie.Need-element-write-left
+element-write-left c = search needs
 
 returns : tie.Need-returns
 unfolding charge
@@ -29,8 +29,8 @@ charge-spec =
     tie.close
     (tie.spec
     mul-one-less
-    array-read-one-less
+    element-copy-out-one-less
     one-less-requires
-    mul-after
-    array-write-after
+    mul-left
+    element-write-left
     returns)

@@ -8,13 +8,11 @@ use Rattle.scheduler.proofs.turning.left_at_start.Statement.{statement}
 use Rattle.scheduler.proofs.turning.left_at_start.Tie as tie
 
 rem-if1 : tie.Need-rem-if1
-rem-if1 c =
-    let start = c .before .before in
-    omega (arith, policy-laws (start .args .p) (start .pre) .capped .epoch-bounds .0)
+rem-if1 c = omega (arith, policy-laws (c .before .args .p) (c .before .pre .0) .capped .epoch-bounds .0)
 
 returns : tie.Need-returns
 unfolding leftAtStart
-returns c = rw (eq-eqb _ 0 (c .if1 .taken))
+returns c = rw (eq-eqb _ 0 (c .before .if1 .taken), c .before .before .before .pre .1)
 
 returns-2 : tie.Need-returns-2
 unfolding leftAtStart

@@ -4,11 +4,10 @@ use mathlib.Core.Path.{_≡_, sym, ap, ap₂, _∙_, subst}
 use mathlib.Core.Bool.{Bool}
 use mathlib.Core.List.{List}
 use Prim.Native.Nat.{ℕ, _<_}
-use borrow.Author.Needs.{needs}
-use lib.ListN.{length}
 use Rattle.policy.specs.Policy.{least}
+use Rattle.scheduler.specs.Climb.{Climbs}
 use Rattle.scheduler.specs.Traversal.{Reached, tryClass, charge}
-use Rattle.scheduler.specs.Lookahead.{reaches, elides}
+use Rattle.scheduler.specs.Lookahead.{elides}
 use Rattle.scheduler.specs.Step.{leftAtStart, ownedBy, startTurn}
 use Rattle.scheduler.specs.declared.Turns.{Turns}
 use Rattle.scheduler.proofs.Ordered.{climbs, least-small, owner-small}
@@ -23,69 +22,58 @@ made owner elided left pointers = record { owner = owner; elided = elided; left 
 abbrev reached : tie.After-try-class → Reached
 reached c = record { owner = c .try-class .result; pointers = c .try-class .last .1 .1 .1 .1 .0 }
 
--- it is the traversal from the least class, by the turns left at the start
-walked : (c : tie.After-try-class) → reached c ≡ tryClass 16 (c .before .before .before .before .before .before .before .before .before .args .p .covers) (c .before .before .before .before .before .before .before .before .before .args .lengths .now) (leftAtStart (c .before .before .before .before .before .before .before .before .before .args .p) (c .before .before .before .before .before .before .before .before .before .args .number) (c .before .before .before .before .before .before .before .before .before .args .left)) (c .before .before .before .before .before .before .before .before .before .args .pointers) (least (c .before .before .before .before .before .before .before .before .before .args .p))
-unfolding least
-walked c =
-    let a = c .before .before .before .before .before .before .before .before .before .args in
-    c .try-class .ensures
-    ∙ ap₂ (λ (l : List ℕ) (k : ℕ). tryClass 16 (a .p .covers) (a .lengths .now) l (a .pointers) k) (c .before .before .before .before .before .left-at-start .ensures) (c .before .before .before .before .before .before .least-in .ensures)
+-- the turns left as the turn starts
+abbrev full : tie.Start → List ℕ
+full c = leftAtStart (c .args .p) (c .args .number) (c .args .left .now)
 
-least-here : (c : tie.After-least-in) → c .least-in .result < 16
-unfolding least
-least-here c =
-    let start = c .before .before .before in
-    subst (λ (k : ℕ). k < 16) (sym (c .least-in .ensures)) (least-small (start .args .p) (start .pre .0))
+-- the traversal is that from the least class, by the turns left at the start
+walked : (c : tie.After-try-class) → reached c ≡ tryClass 16 (c .before .before .before .before .before .args .p .covers) (c .before .before .before .before .before .args .lengths .now) (full (c .before .before .before .before .before)) (c .before .before .before .before .before .args .pointers .now) (least (c .before .before .before .before .before .args .p))
+walked c =
+    let a = c .before .before .before .before .before .args in
+    let lent = c .before .before .before .before .before .pre .2 in
+    c .try-class .ensures
+    ∙ ap₂ (λ (covers left : List ℕ). tryClass 16 covers (a .lengths .now) left (a .pointers .now) (a .bottom)) (lent .covers-are) (c .before .before .before .left-at-start .ensures)
+    ∙ ap (tryClass 16 (a .p .covers) (a .lengths .now) (full (c .before .before .before .before .before)) (a .pointers .now)) (lent .bottom-is)
 
 owner-here : (c : tie.After-try-class) → c .try-class .result < 16
 owner-here c =
-    let start = c .before .before .before .before .before .before .before .before .before in
+    let start = c .before .before .before .before .before in
     let p = start .args .p in
     subst (λ (r : Reached). r .owner < 16) (sym (walked c))
-    (owner-small (p .rows) (p .covers) (start .args .lengths .now) (leftAtStart p (start .args .number) (start .args .left)) (climbs p (start .pre .0)) 16 (start .args .pointers) (least p) (least-small p (start .pre .0)))
-
-least-in-requires : tie.Need-least-in-requires
-least-in-requires c κs = search needs
+    (owner-small (p .rows) (p .covers) (start .args .lengths .now) (full start) (climbs p (start .pre .0)) 16 (start .args .pointers .now) (least p) (least-small p (start .pre .0)))
 
 left-at-start-requires : tie.Need-left-at-start-requires
-left-at-start-requires c κs = search needs
+left-at-start-requires c κs = (c .before .pre .0, c .before .pre .2 .caps-are)
 
 try-class-requires : tie.Need-try-class-requires
 try-class-requires c κs =
-    let start = c .before .before .before .before .before .before .before .before in
-    let long : length (start .args .pointers) ≡ 16 = search needs in
-    (climbs (start .args .p) (start .pre .0), least-here (c .before .before .before .before .before), long)
+    let start = c .before .before .before .before in
+    let lent = start .pre .2 in
+    (subst (λ (covers : List ℕ). Climbs (start .args .rows .now) covers) (sym (lent .covers-are)) (subst (λ (rows : List ℕ). Climbs rows (start .args .p .covers)) (sym (lent .rows-are)) (climbs (start .args .p) (start .pre .0))), subst (λ (k : ℕ). k < 16) (sym (lent .bottom-is)) (least-small (start .args .p) (start .pre .0)), start .pre .3)
 
 charge-requires : tie.Need-charge-requires
-charge-requires c κs = owner-here c
+charge-requires c κs = owner-here (c .before)
 
-next-left-requires : tie.Need-next-left-requires
-next-left-requires c κs = search needs
-
-reaches-requires : tie.Need-reaches-requires
-reaches-requires c κs =
-    let start = c .before .before .before .before .before .before .before .before .before .before .before .before .before .before .before in
-    (climbs (start .args .p) (start .pre .0), least-here (c .before .before .before .before .before .before .before .before .before .before .before .before))
+elides-requires : tie.Need-elides-requires
+elides-requires c κs = let start = c .before .before .before .before .before .before .before .before .before in (start .pre .0, start .pre .1, start .pre .2)
 
 returns : tie.Need-returns
-unfolding ownedBy startTurn elides least
+unfolding ownedBy startTurn
 returns c =
-    let start = c .before .before .before .before .before .before .before .before .before .before .before .before .before .before .before .before in
+    let start = c .before .before .before .before .before .before .before .before .before .before in
     let p = start .args .p in
-    let tried = c .before .before .before .before .before .before .before in
-    let one : made (tried .try-class .result) (c .reaches .result) (c .before .before .before .before .before .before .charge .result) (tried .try-class .last .1 .1 .1 .1 .0) ≡ ownedBy p (start .args .number) (leftAtStart p (start .args .number) (start .args .left)) (reached tried) =
-    rw (c .reaches .ensures, c .before .before .before .before .before .next-left .ensures, c .before .before .before .before .before .before .charge .ensures, c .before .before .before .before .before .before .before .before .before .before .before .before .left-at-start .ensures, c .before .before .before .before .before .before .before .before .before .before .before .before .before .least-in .ensures)
+    let number = start .args .number in
+    let tried = c .before .before .before .before .before in
+    let left : c .before .before .before .charge .last .0 ≡ charge (full start) (tried .try-class .result) = c .before .before .before .charge .ensures ∙ ap (λ (l : List ℕ). charge l (tried .try-class .result)) (c .before .before .before .before .before .before .before .before .left-at-start .ensures) in
+    let elided : c .elides .result ≡ elides p number (charge (full start) (tried .try-class .result)) (tried .try-class .last .1 .1 .1 .1 .0) (tried .try-class .result) =
+    c .elides .ensures ∙ ap (λ (l : List ℕ). elides p number l (tried .try-class .last .1 .1 .1 .1 .0) (tried .try-class .result)) left
     in
-    one ∙ ap (ownedBy p (start .args .number) (leftAtStart p (start .args .number) (start .args .left))) (walked tried)
+    let one : made (tried .try-class .result) (c .elides .result) (c .before .before .before .charge .last .0) (tried .try-class .last .1 .1 .1 .1 .0) ≡ ownedBy p number (full start) (reached tried) =
+    ap₂ (λ (b : Bool) (l : List ℕ). made (tried .try-class .result) b l (tried .try-class .last .1 .1 .1 .1 .0)) elided left
+    in
+    one ∙ ap (ownedBy p number (full start)) (walked tried)
 
 pub start-turn-spec : {M : Type 1} → statement M
 start-turn-spec =
     tie.close
-    (tie.spec
-    least-in-requires
-    left-at-start-requires
-    try-class-requires
-    charge-requires
-    next-left-requires
-    reaches-requires
-    returns)
+    (tie.spec left-at-start-requires try-class-requires charge-requires elides-requires returns)

@@ -1,0 +1,6 @@
+-- Laws that belong to no one function.
+
+-- of a file that is refused or taken
+pub mod Sides
+-- of the numbers that a run from a file answers
+pub mod Laws

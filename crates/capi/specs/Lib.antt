@@ -1,0 +1,6 @@
+-- The definitions that the contracts of `capi` cite: each call is put together from those of the crates below.
+
+-- a run from a policy file's fresh state
+pub mod Runs
+-- which numbers a run answers
+pub mod Laws

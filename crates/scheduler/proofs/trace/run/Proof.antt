@@ -1,0 +1,54 @@
+-- `scheduler::trace::run` meets its contract: each return is the side of the definitions that its tests pick.
+-- Assumes nothing.
+use mathlib.Core.Path.{_≡_, sym, ap, _∙_}
+use mathlib.Core.Bool.{true, false}
+use Prim.Native.Nat.{_*_}
+use native.Mathlib.Omega.{arith}
+use borrow.Author.Needs.{needs}
+use borrow.Author.Tests.{le-leb, lt-leb}
+use lib.ListN.{length}
+use Rattle.policy.proofs.Truth.{not-true, not-not}
+use Rattle.scheduler.specs.Range.{inRange}
+use Rattle.scheduler.specs.Run.{hasRoom}
+use Rattle.scheduler.proofs.Sides.{ran, by-range, by-room, by-calls}
+use Rattle.scheduler.proofs.trace.run.Statement.{statement}
+use Rattle.scheduler.proofs.trace.run.Tie as tie
+
+-- 13 does not refuse it
+taken : (c : tie.Else1) → inRange (c .before .before .before .before .args .p) (c .before .before .before .before .args .s) ≡ true
+taken c = sym (c .before .in-range .ensures) ∙ not-not _ (c .if1 .left)
+
+in-range-requires : tie.Need-in-range-requires
+in-range-requires c κs = search needs
+
+returns : tie.Need-returns
+returns c =
+    let a = c .before .before .before .before .args in
+    let side = by-range (a .p) (a .s) (a .trace .now) (a .log .now) (sym (c .before .in-range .ensures) ∙ not-true _ (c .if1 .taken)) in
+    (sym (side .0), sym (side .1))
+
+returns-2 : tie.Need-returns-2
+unfolding hasRoom
+returns-2 c =
+    let a = c .before .before .before .before .before .args in
+    let short : hasRoom (a .trace .now) (a .log .now) ≡ false = lt-leb (4 * length (a .trace .now)) (length (a .log .now)) (omega (arith, c .if2 .taken)) in
+    let side = by-room (a .p) (a .s) (a .trace .now) (a .log .now) (taken (c .before)) short in
+    (sym (side .0), sym (side .1))
+
+advance-requires : tie.Need-advance-requires
+advance-requires c κs = (taken (c .before .before), omega (arith, c .before .if2 .left))
+
+same-length : tie.Need-same-length
+same-length c = search needs
+
+returns-3 : tie.Need-returns-3
+unfolding hasRoom
+returns-3 c =
+    let a = c .before .before .before .before .before .before .before .before .before .args in
+    let room : hasRoom (a .trace .now) (a .log .now) ≡ true = le-leb (4 * length (a .trace .now)) (length (a .log .now)) (omega (arith, c .before .before .before .before .if2 .left)) in
+    let side = by-calls (a .p) (a .s) (a .trace .now) (a .log .now) (taken (c .before .before .before .before .before)) room in
+    (ap (ran 0) (c .before .before .advance .ensures .0) ∙ sym (side .0), c .before .before .advance .ensures .1 ∙ sym (side .1))
+
+pub run-spec : {M : Type 1} → statement M
+run-spec =
+    tie.close (tie.spec in-range-requires returns returns-2 advance-requires same-length returns-3)

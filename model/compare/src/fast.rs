@@ -1,0 +1,332 @@
+//! The rules of document 01 written for speed: the measure of what a run could
+//! cost.
+//!
+//! One struct holds policy and state in fixed arrays and is changed in place.
+//! Nothing is allocated after [`Controller::new`], and a tick that starts no
+//! turn neither divides nor looks at any class but the owner. Ticks are still
+//! made one by one: no stretch of idle ticks is skipped.
+
+use vigambul_model::policy::{self, Policy, MOST_CLASSES};
+use vigambul_model::state::{BANKS, LAST_CYCLE, QUEUE_LIMIT};
+use vigambul_model::trace::{COLUMN_BIT, ELIDED, LINE, OFFER_BIT};
+
+/// Commands and answers in flight lie in rings by the cycle they are due at.
+/// No delay is above 31, so the slot of the current cycle is never one that an
+/// activate of this cycle fills.
+const SLOTS: usize = 32;
+
+/// Bits 22, 23, 29 and 30, which are 0 in an offer.
+const UNUSED_BITS: u32 = 0x60C0_0000;
+
+// Numbers of document 01's table.
+const CLASS: u32 = 9;
+const BANK_OR_KIND: u32 = 10;
+const QUEUE_FULL: u32 = 11;
+const NO_MORE_TICKS: u32 = 12;
+const MALFORMED: u32 = 14;
+const LOG_TOO_SHORT: u32 = 15;
+
+/// A policy and a state under it. Sets of classes are masks of 16 bits.
+pub struct Controller {
+    // What the policy says; it stays as it is.
+    class_count: usize,
+    least: usize,
+    /// For each class those that it may flow to.
+    rows: [u16; MOST_CLASSES],
+    children: [[u8; MOST_CLASSES]; MOST_CLASSES],
+    child_count: [u8; MOST_CLASSES],
+    /// The classes with nothing above them.
+    tops: u16,
+    caps: [u8; MOST_CLASSES],
+    /// The classes with a cap above 0.
+    with_caps: u16,
+    epoch: u32,
+    turn_length: u32,
+    dead_time: u32,
+    /// By the earlier kind, then the later.
+    gaps: [[u32; 2]; 2],
+    bank_gaps: [u32; 2],
+    column_delay: u32,
+    answer_delay: u32,
+
+    // The state.
+    /// The number of the next tick.
+    cycle: u32,
+    /// The cycle at which the next turn starts, kept so that no tick divides.
+    next_turn: u32,
+    /// The next turn's number in its epoch, for the same reason.
+    turn_in_epoch: u32,
+    owner: usize,
+    /// The owner may activate at cycles below this.
+    window_end: u32,
+    /// Offers' words as they came, in a ring for each class.
+    queues: [[u32; QUEUE_LIMIT]; MOST_CLASSES],
+    heads: [u8; MOST_CLASSES],
+    lengths: [u8; MOST_CLASSES],
+    /// The classes with a request waiting.
+    waiting: u16,
+    turns_left: [u8; MOST_CLASSES],
+    /// The classes with turns left.
+    with_turns: u16,
+    marks: [u8; MOST_CLASSES],
+    /// The word that is due at each cycle to come, by the cycle modulo 32.
+    columns: [u32; SLOTS],
+    answers: [u32; SLOTS],
+    /// The first cycle at which the last activate lets one of each kind out.
+    kind_ready: [u32; 2],
+    /// The first cycle at which the last activate of a bank lets another out.
+    bank_ready: [u32; BANKS],
+}
+
+/// Reads a policy file and runs a trace from its fresh state into a log, with
+/// the answers of the library's call: 0, 1 to 8, or 15.
+pub fn run(policy_file: &[u8], trace: &[u32], log: &mut [u32]) -> u32 {
+    let (policy, refusal) = policy::read(policy_file);
+    if let Some(refusal) = refusal {
+        return refusal.number();
+    }
+    if log.len() < LINE * trace.len() {
+        return LOG_TOO_SHORT;
+    }
+    Controller::new(&policy).run(trace, log);
+    0
+}
+
+impl Controller {
+    /// The fresh state of a policy that was read from a file.
+    pub fn new(policy: &Policy) -> Controller {
+        let timing = &policy.timing;
+        let n = policy.class_count();
+        let mut controller = Controller {
+            class_count: n,
+            least: policy.least(),
+            rows: [0; MOST_CLASSES],
+            children: [[0; MOST_CLASSES]; MOST_CLASSES],
+            child_count: [0; MOST_CLASSES],
+            tops: 0,
+            caps: [0; MOST_CLASSES],
+            with_caps: 0,
+            epoch: u32::from(policy.epoch),
+            turn_length: u32::from(timing.turn_length),
+            dead_time: u32::from(timing.dead_time),
+            gaps: timing.gaps.map(|later| later.map(u32::from)),
+            bank_gaps: timing.bank_gaps.map(u32::from),
+            column_delay: u32::from(timing.column_delay),
+            answer_delay: u32::from(timing.response_delay),
+            cycle: 0,
+            next_turn: 0,
+            turn_in_epoch: 0,
+            owner: 0,
+            window_end: 0,
+            queues: [[0; QUEUE_LIMIT]; MOST_CLASSES],
+            heads: [0; MOST_CLASSES],
+            lengths: [0; MOST_CLASSES],
+            waiting: 0,
+            turns_left: [0; MOST_CLASSES],
+            with_turns: 0,
+            marks: [0; MOST_CLASSES],
+            columns: [0; SLOTS],
+            answers: [0; SLOTS],
+            kind_ready: [0; 2],
+            bank_ready: [0; BANKS],
+        };
+        controller.rows[..n].copy_from_slice(&policy.rows);
+        controller.caps[..n].copy_from_slice(&policy.caps);
+        for class in 0..n {
+            let children = policy.covers_of(class);
+            for (place, &child) in children.iter().enumerate() {
+                controller.children[class][place] = child as u8;
+            }
+            controller.child_count[class] = children.len() as u8;
+            controller.tops |= u16::from(children.is_empty()) << class;
+            controller.with_caps |= u16::from(policy.caps[class] > 0) << class;
+        }
+        // Turns left and window are set when the first tick starts an epoch.
+        controller
+    }
+
+    /// Runs a trace into a log of at least four times its length.
+    pub fn run(&mut self, trace: &[u32], log: &mut [u32]) {
+        for (&number, line) in trace.iter().zip(log.chunks_exact_mut(LINE)) {
+            line.copy_from_slice(&self.call(number));
+        }
+    }
+
+    /// One trace number's four log numbers.
+    #[inline]
+    pub fn call(&mut self, number: u32) -> [u32; LINE] {
+        if number == 0 {
+            self.tick()
+        } else {
+            [self.offer(number), 0, 0, 0]
+        }
+    }
+
+    /// The status of a number other than 0.
+    #[inline]
+    fn offer(&mut self, word: u32) -> u32 {
+        if word & (OFFER_BIT | UNUSED_BITS) != OFFER_BIT {
+            return MALFORMED;
+        }
+        let class = (word >> 24 & 0x1F) as usize;
+        if class >= self.class_count {
+            return CLASS;
+        }
+        // The upper bit of the kind and that of the bank: kind above 1, or
+        // bank above 7.
+        if word & (1 << 21 | 1 << 19) != 0 {
+            return BANK_OR_KIND;
+        }
+        let length = self.lengths[class];
+        if usize::from(length) >= QUEUE_LIMIT {
+            return QUEUE_FULL;
+        }
+        let place = usize::from(self.heads[class] + length) % QUEUE_LIMIT;
+        self.queues[class][place] = word;
+        self.lengths[class] = length + 1;
+        self.waiting |= 1 << class;
+        0
+    }
+
+    #[inline]
+    fn tick(&mut self) -> [u32; LINE] {
+        let cycle = self.cycle;
+        if cycle >= LAST_CYCLE {
+            return [NO_MORE_TICKS, 0, 0, 0];
+        }
+        let turn = if cycle == self.next_turn {
+            self.start_turn()
+        } else {
+            0
+        };
+        let slot = cycle as usize % SLOTS;
+        let column = take(&mut self.columns[slot]);
+        let command = if column != 0 {
+            column | COLUMN_BIT
+        } else if cycle < self.window_end && self.waiting >> self.owner & 1 == 1 {
+            self.activate_head()
+        } else {
+            0
+        };
+        let answer = take(&mut self.answers[slot]);
+        self.cycle = cycle + 1;
+        [0, command, answer, turn]
+    }
+
+    /// Activates the head of the owner's queue, which is not empty, if all gaps
+    /// are met. Gives its word, or 0 if none goes out.
+    fn activate_head(&mut self) -> u32 {
+        let owner = self.owner % MOST_CLASSES;
+        let cycle = self.cycle;
+        let head = self.heads[owner];
+        let word = self.queues[owner][usize::from(head) % QUEUE_LIMIT];
+        let kind = (word >> 20 & 1) as usize;
+        let bank = (word >> 16) as usize % BANKS;
+        if cycle < self.kind_ready[kind] || cycle < self.bank_ready[bank] {
+            return 0;
+        }
+        self.heads[owner] = (head + 1) % QUEUE_LIMIT as u8;
+        self.lengths[owner] -= 1;
+        if self.lengths[owner] == 0 {
+            self.waiting &= !(1 << owner);
+        }
+        self.kind_ready = self.gaps[kind].map(|gap| cycle + gap);
+        self.bank_ready[bank] = cycle + self.bank_gaps[kind];
+        self.columns[(cycle + self.column_delay) as usize % SLOTS] = word;
+        self.answers[(cycle + self.answer_delay) as usize % SLOTS] = word;
+        word
+    }
+
+    /// Starts a turn and gives its number in the log.
+    fn start_turn(&mut self) -> u32 {
+        if self.turn_in_epoch == 0 {
+            self.turns_left = self.caps;
+            self.with_turns = self.with_caps;
+        }
+        self.turn_in_epoch += 1;
+        if self.turn_in_epoch == self.epoch {
+            self.turn_in_epoch = 0;
+        }
+        self.walk();
+        let elided = self.trial_reaches_owner();
+        self.next_turn = self.cycle + self.turn_length;
+        self.window_end = if elided {
+            self.next_turn
+        } else {
+            self.next_turn - self.dead_time
+        };
+        1 + self.owner as u32 + if elided { ELIDED } else { 0 }
+    }
+
+    /// Picks the owner, moves the marks of the classes that are reached, and
+    /// takes one of the owner's turns left.
+    fn walk(&mut self) {
+        let takers = self.waiting & self.with_turns | self.tops;
+        let mut class = self.least;
+        loop {
+            let mark = self.moved_mark(class);
+            self.marks[class] = mark;
+            if takers >> class & 1 == 1 {
+                break;
+            }
+            // A class that does not take the turn has children, so the moved
+            // mark is not 0.
+            class = self.child(class, mark);
+        }
+        self.owner = class;
+        if self.turns_left[class] > 0 {
+            self.turns_left[class] -= 1;
+            if self.turns_left[class] == 0 {
+                self.with_turns &= !(1 << class);
+            }
+        }
+    }
+
+    /// Whether the next turn's walk, as far as can be told now, leads to the
+    /// owner past classes that may flow to it and have no turns left. If the
+    /// next turn starts an epoch, the turns left are the caps.
+    fn trial_reaches_owner(&self) -> bool {
+        let with_turns = if self.turn_in_epoch == 0 {
+            self.with_caps
+        } else {
+            self.with_turns
+        };
+        let mut class = self.least;
+        while class != self.owner {
+            let may_flow = self.rows[class] >> self.owner & 1 == 1;
+            if !may_flow || with_turns >> class & 1 == 1 {
+                return false;
+            }
+            class = self.child(class, self.moved_mark(class));
+        }
+        true
+    }
+
+    /// The mark of a class once it is moved on; 0 where it has no children.
+    #[inline]
+    fn moved_mark(&self, class: usize) -> u8 {
+        let count = self.child_count[class];
+        let mark = self.marks[class];
+        if mark < count {
+            mark + 1
+        } else {
+            count.min(1)
+        }
+    }
+
+    /// The child that a mark above 0 names.
+    #[inline]
+    fn child(&self, class: usize, mark: u8) -> usize {
+        usize::from(self.children[class][usize::from(mark) - 1])
+    }
+}
+
+/// Empties a slot and gives what was in it. Most are empty, and are left alone.
+#[inline]
+fn take(slot: &mut u32) -> u32 {
+    let word = *slot;
+    if word != 0 {
+        *slot = 0;
+    }
+    word
+}

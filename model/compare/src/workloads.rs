@@ -1,0 +1,147 @@
+//! The policies and traces that speed is measured on.
+
+use vigambul_model::generate::{
+    malformed_word, missing_class_word, refused_offer, sound_offer, PolicyFields,
+};
+use vigambul_model::policy::{self, Policy, MOST_CLASSES};
+use vigambul_model::random::Random;
+use vigambul_model::state::QUEUE_LIMIT;
+use vigambul_model::trace::COLUMN_BIT;
+
+use crate::fast::Controller;
+
+/// A policy file and a trace to run under it.
+pub struct Workload {
+    pub name: &'static str,
+    pub policy: Vec<u8>,
+    pub trace: Vec<u32>,
+}
+
+/// Turns of 16 with a dead time of 6; gaps and delays that differ, so that each
+/// of them holds some activates back.
+const TIMING: [u8; 10] = [16, 6, 2, 3, 3, 2, 4, 6, 2, 5];
+/// The same with the longest turns: one tick in 255 starts one.
+const LONG_TURNS: [u8; 10] = [255, 6, 2, 3, 3, 2, 4, 6, 2, 5];
+
+/// The workloads of the main table, each of so many trace numbers.
+pub fn main_workloads(length: usize) -> Vec<Workload> {
+    vec![
+        idle("idle ticks, a diamond", diamond(), length),
+        saturated("one class, saturated", single(TIMING), length),
+        saturated("chain of 16, saturated", chain(TIMING), length),
+        saturated("antichain of 15 over one, saturated", antichain(), length),
+        mix("mix with refusals, a diamond", diamond(), length),
+    ]
+}
+
+/// Ticks of which one in 255 starts a turn, for one class and for sixteen.
+pub fn long_turn_workloads(length: usize) -> Vec<Workload> {
+    vec![
+        idle("1 class, idle", single(LONG_TURNS), length),
+        idle("16 classes, idle", chain(LONG_TURNS), length),
+        saturated("1 class, saturated", single(LONG_TURNS), length),
+        saturated("16 classes, saturated", chain(LONG_TURNS), length),
+    ]
+}
+
+/// The policy file of the chain of sixteen.
+pub fn policy_of_sixteen() -> Vec<u8> {
+    chain(TIMING).encode()
+}
+
+fn single(timing: [u8; 10]) -> PolicyFields {
+    PolicyFields::new(&[1], 4, &[0], timing)
+}
+
+/// 0 below 1 and 2, both below 3.
+fn diamond() -> PolicyFields {
+    PolicyFields::new(&[0b1111, 0b1010, 0b1100, 0b1000], 8, &[1, 2, 2, 1], TIMING)
+}
+
+/// All sixteen in a row. Every class but the highest has a cap of 1, so that
+/// each of them owns one turn of an epoch, and walks end at every height.
+fn chain(timing: [u8; 10]) -> PolicyFields {
+    let rows: Vec<u16> = (0..MOST_CLASSES).map(|class| 0xFFFF << class).collect();
+    let mut minimums = [0; MOST_CLASSES];
+    minimums[MOST_CLASSES - 1] = 15;
+    PolicyFields::new(&rows, 16, &minimums, timing)
+}
+
+/// Class 0 below fifteen that are incomparable. Its cap is 1, so that the
+/// others own the other fifteen turns of an epoch.
+fn antichain() -> PolicyFields {
+    let mut rows: Vec<u16> = (0..MOST_CLASSES).map(|class| 1 << class).collect();
+    rows[0] = 0xFFFF;
+    let mut minimums = [1; MOST_CLASSES];
+    minimums[0] = 0;
+    PolicyFields::new(&rows, 16, &minimums, TIMING)
+}
+
+fn accepted(fields: &PolicyFields) -> (Vec<u8>, Policy) {
+    let file = fields.encode();
+    let (policy, refusal) = policy::read(&file);
+    assert_eq!(refusal, None, "the policy of a workload is accepted");
+    (file, policy)
+}
+
+/// Nothing but ticks.
+fn idle(name: &'static str, fields: PolicyFields, length: usize) -> Workload {
+    Workload {
+        name,
+        policy: accepted(&fields).0,
+        trace: vec![0; length],
+    }
+}
+
+/// Every queue is filled at the start, and each activate is followed by an offer
+/// of the same class: no queue ever empties, and none is offered too much.
+fn saturated(name: &'static str, fields: PolicyFields, length: usize) -> Workload {
+    let (file, policy) = accepted(&fields);
+    let random = &mut Random::new(1);
+    let mut trace: Vec<u32> = (0..policy.class_count() as u8)
+        .flat_map(|class| [class; QUEUE_LIMIT])
+        .map(|class| sound_offer(random, class, 8))
+        .collect();
+    let mut controller = Controller::new(&policy);
+    for &offer in &trace {
+        controller.call(offer);
+    }
+    while trace.len() < length {
+        trace.push(0);
+        let [_, command, _, _] = controller.call(0);
+        if command != 0 && command & COLUMN_BIT == 0 {
+            let class = (command >> 24 & 0x1F) as u8;
+            let offer = sound_offer(random, class, 8);
+            trace.push(offer);
+            controller.call(offer);
+        }
+    }
+    trace.truncate(length);
+    Workload {
+        name,
+        policy: file,
+        trace,
+    }
+}
+
+/// Half ticks; the rest are offers, of which many find a full queue, and
+/// numbers of each other kind that is refused.
+fn mix(name: &'static str, fields: PolicyFields, length: usize) -> Workload {
+    let (file, policy) = accepted(&fields);
+    let random = &mut Random::new(2);
+    let number = |_| {
+        let class = random.below(policy.class_count()) as u8;
+        match random.below(20) {
+            0..=9 => 0,
+            10..=15 => sound_offer(random, class, 8),
+            16 => missing_class_word(random, &policy),
+            17 => refused_offer(random, class),
+            _ => malformed_word(random),
+        }
+    };
+    Workload {
+        name,
+        trace: (0..length).map(number).collect(),
+        policy: file,
+    }
+}

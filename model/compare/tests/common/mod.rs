@@ -1,0 +1,356 @@
+//! What the tests share: folders on disk, runs of the program, generated cases.
+
+#![allow(dead_code)] // each test file uses its own part
+
+use std::collections::BTreeMap;
+use std::fs;
+use std::path::{Path, PathBuf};
+use std::process::{Child, Command, ExitStatus, Output, Stdio};
+use std::sync::mpsc::{self, RecvTimeoutError};
+use std::thread;
+use std::time::{Duration, Instant};
+
+use vigambul_compare::built;
+use vigambul_model::coverage::Coverage;
+use vigambul_model::generate::{self, PolicyFields};
+use vigambul_model::policy;
+use vigambul_model::program::HEADER;
+use vigambul_model::random::Random;
+use vigambul_model::state;
+use vigambul_model::trace::{self, LINE};
+
+/// The seeds of the generated folders, unless the environment says otherwise.
+const FIRST_SEED: u64 = 1_000_000;
+const FOLDERS: u64 = 2_500;
+
+/// No run of the program in a test takes nearly as long.
+pub const LONGEST_RUN: Duration = Duration::from_secs(30);
+
+// ---------------------------------------------------------------------------
+// Generated cases.
+
+/// The two files of a folder; None is a missing one.
+pub struct Case {
+    pub seed: u64,
+    pub policy: Option<Vec<u8>>,
+    pub trace: Option<Vec<u8>>,
+    /// What was done to the generated folder.
+    pub change: &'static str,
+}
+
+const CHANGES: [&str; 7] = [
+    "policy.bin missing",
+    "trace.bin missing",
+    "both files missing",
+    "any bytes as the trace",
+    "a bit of the trace flipped",
+    "the trace cut short",
+    "as generated",
+];
+
+impl Case {
+    /// The case of a seed: the generator's folder, at times with a file missing
+    /// or the trace damaged.
+    pub fn new(seed: u64) -> Case {
+        let folder = generate::folder(seed);
+        // Any other seed would do; the folder's own would repeat its numbers.
+        let random = &mut Random::new(!seed);
+        // Each change to one folder in forty; the rest stay as they are.
+        let change = CHANGES[random.below(40).min(CHANGES.len() - 1)];
+        let (mut policy, mut trace) = (Some(folder.policy), Some(folder.trace));
+        match change {
+            "policy.bin missing" => policy = None,
+            "trace.bin missing" => trace = None,
+            "both files missing" => (policy, trace) = (None, None),
+            "any bytes as the trace" => {
+                let length = random.below(2_000);
+                trace = Some((0..length).map(|_| random.next() as u8).collect());
+            }
+            "a bit of the trace flipped" => {
+                let bytes = trace.as_mut().expect("the generated trace");
+                if !bytes.is_empty() {
+                    let place = random.below(bytes.len());
+                    bytes[place] ^= 1 << random.below(8);
+                }
+            }
+            "the trace cut short" => {
+                let bytes = trace.as_mut().expect("the generated trace");
+                bytes.truncate(random.below(40));
+            }
+            _ => {}
+        }
+        Case {
+            seed,
+            policy,
+            trace,
+            change,
+        }
+    }
+
+    /// "A missing file is read as empty."
+    pub fn policy_bytes(&self) -> &[u8] {
+        self.policy.as_deref().unwrap_or_default()
+    }
+
+    pub fn trace_bytes(&self) -> &[u8] {
+        self.trace.as_deref().unwrap_or_default()
+    }
+
+    /// Both files as the model's generator has them.
+    pub fn folder(&self) -> generate::Folder {
+        generate::Folder {
+            policy: self.policy_bytes().to_vec(),
+            trace: self.trace_bytes().to_vec(),
+        }
+    }
+}
+
+/// Every generated case. `VIGAMBUL_FOLDERS` sets how many, `VIGAMBUL_FIRST_SEED`
+/// from which seed on.
+pub fn cases() -> impl Iterator<Item = Case> {
+    let first = number_in_environment("VIGAMBUL_FIRST_SEED").unwrap_or(FIRST_SEED);
+    let count = number_in_environment("VIGAMBUL_FOLDERS").unwrap_or(FOLDERS);
+    (first..first + count).map(Case::new)
+}
+
+fn number_in_environment(name: &str) -> Option<u64> {
+    let text = std::env::var(name).ok()?;
+    Some(text.parse().unwrap_or_else(|_| panic!("{name}={text}")))
+}
+
+/// How long the traces of accepted policies are.
+const LENGTHS: [&str; 4] = [
+    "a trace of no number",
+    "a trace of 1 to 9 numbers",
+    "a trace of 10 to 1,999 numbers",
+    "a trace of 2,000 numbers or more",
+];
+
+/// How often each thing was met that a test must meet.
+pub struct Counts {
+    coverage: Coverage,
+    others: BTreeMap<String, u64>,
+}
+
+impl Counts {
+    /// All that the model's coverage counts, every change of a case, every
+    /// length of a trace, and what a test adds to them.
+    pub fn new(others: &[&str]) -> Counts {
+        let names = CHANGES.iter().chain(&LENGTHS).chain(others);
+        Counts {
+            coverage: Coverage::new(),
+            others: names.map(|name| (name.to_string(), 0)).collect(),
+        }
+    }
+
+    pub fn add(&mut self, case: &Case) {
+        self.coverage.add(&case.folder());
+        self.met(case.change);
+        if policy::read(case.policy_bytes()).1.is_none() {
+            self.met(match case.trace_bytes().len() / 4 {
+                0 => LENGTHS[0],
+                1..=9 => LENGTHS[1],
+                10..=1_999 => LENGTHS[2],
+                _ => LENGTHS[3],
+            });
+        }
+    }
+
+    pub fn met(&mut self, name: &str) {
+        *self.others.entry(name.to_string()).or_insert(0) += 1;
+    }
+
+    /// A generator that never produces a case tests nothing.
+    pub fn require_all_met(&self) {
+        let others = self.others.iter().map(|(name, &n)| (name.as_str(), n));
+        let mut missed = Vec::new();
+        for (name, count) in self.coverage.counts().chain(others) {
+            println!("{count:>9} {name}");
+            if count == 0 {
+                missed.push(name);
+            }
+        }
+        assert!(missed.is_empty(), "never met: {missed:?}");
+    }
+}
+
+// ---------------------------------------------------------------------------
+// The model's part.
+
+/// The model's log of a trace under a policy file, or the number that refuses
+/// the file.
+pub fn model_log(policy_file: &[u8], numbers: &[u32]) -> Result<Vec<u32>, u32> {
+    let (policy, refusal) = policy::read(policy_file);
+    if let Some(refusal) = refusal {
+        return Err(refusal.number());
+    }
+    let (mut state, refusal) = state::fresh(&policy);
+    assert_eq!(refusal, None, "a policy that was read is fit");
+    let mut log = vec![0; LINE * numbers.len()];
+    assert_eq!(
+        trace::run(&policy, &mut state, numbers, &mut log),
+        Ok(()),
+        "the log is long enough"
+    );
+    Ok(log)
+}
+
+/// 0 below 1 and 2, both below 3; turns of 16.
+pub fn diamond() -> Vec<u8> {
+    let rows = [0b1111, 0b1010, 0b1100, 0b1000];
+    let timing = [16, 6, 2, 3, 3, 2, 4, 6, 2, 5];
+    PolicyFields::new(&rows, 8, &[1, 2, 2, 1], timing).encode()
+}
+
+/// A generated trace of exactly so many numbers for a policy file.
+pub fn generated_trace(seed: u64, policy_file: &[u8], length: usize) -> Vec<u32> {
+    let (policy, refusal) = policy::read(policy_file);
+    assert_eq!(refusal, None);
+    generate::trace_of_length(&mut Random::new(seed), &policy, length)
+}
+
+/// Numbers as a trace file has them.
+pub fn trace_file(numbers: &[u32]) -> Vec<u8> {
+    numbers
+        .iter()
+        .flat_map(|number| number.to_le_bytes())
+        .collect()
+}
+
+// ---------------------------------------------------------------------------
+// The program's part.
+
+/// A folder of its own for one test. It is left where it is if the test fails.
+pub struct Folder(PathBuf);
+
+impl Folder {
+    pub fn new(name: &str) -> Folder {
+        let path =
+            std::env::temp_dir().join(format!("vigambul-compare-{}-{name}", std::process::id()));
+        fs::create_dir_all(&path).expect("a folder for the test");
+        Folder(path)
+    }
+
+    pub fn path(&self) -> &Path {
+        &self.0
+    }
+
+    /// Writes a file, or removes it where there is to be none.
+    pub fn put(&self, name: &str, bytes: Option<&[u8]>) -> &Folder {
+        let path = self.0.join(name);
+        match bytes {
+            Some(bytes) => fs::write(&path, bytes).expect("a file for the test"),
+            None => {
+                let _ = fs::remove_file(&path);
+            }
+        }
+        self
+    }
+
+    pub fn put_both(&self, policy: &[u8], trace: &[u8]) -> &Folder {
+        self.put("policy.bin", Some(policy))
+            .put("trace.bin", Some(trace))
+    }
+}
+
+impl Drop for Folder {
+    fn drop(&mut self) {
+        if !thread::panicking() {
+            let _ = fs::remove_dir_all(&self.0);
+        }
+    }
+}
+
+/// A command that runs a program in a folder, without standard input.
+pub fn command_in(program: impl AsRef<Path>, folder: &Folder) -> Command {
+    let mut command = Command::new(program.as_ref());
+    command.current_dir(folder.path()).stdin(Stdio::null());
+    command
+}
+
+/// Runs the built program in a folder. One that does not end is ended.
+pub fn run_program(folder: &Folder) -> Output {
+    let child = command_in(built::program(), folder)
+        .stdout(Stdio::piped())
+        .stderr(Stdio::piped())
+        .spawn()
+        .expect("the program starts");
+    let id = child.id().to_string();
+    let (ended, still_runs) = mpsc::channel::<()>();
+    let watch = thread::spawn(move || {
+        if still_runs.recv_timeout(LONGEST_RUN) == Err(RecvTimeoutError::Timeout) {
+            let _ = Command::new("kill").args(["-KILL", &id]).status();
+        }
+    });
+    let output = child.wait_with_output().expect("the program's output");
+    drop(ended);
+    watch.join().expect("the watch ends");
+    output
+}
+
+/// Whether the built program prints exactly what is expected in a folder, and
+/// nothing on standard error.
+pub fn check_program(folder: &Folder, expected: &[u8]) -> Result<(), String> {
+    check_output(&run_program(folder), expected)
+        .map_err(|why| format!("{why}\nthe folder is {}", folder.path().display()))
+}
+
+pub fn check_output(output: &Output, expected: &[u8]) -> Result<(), String> {
+    let words = String::from_utf8_lossy(&output.stderr);
+    if output.status.code().is_none() {
+        return Err(format!("it ended by {}: {words}", output.status));
+    }
+    if !words.is_empty() {
+        return Err(format!("it wrote to standard error: {words}"));
+    }
+    same_text(&output.stdout, expected)?;
+    // What a refused policy exits with is open; a run that did its work says so.
+    if expected.starts_with(HEADER) && !output.status.success() {
+        return Err(format!("it ended by {}", output.status));
+    }
+    Ok(())
+}
+
+/// Compares texts, and says where they part rather than printing them whole.
+pub fn same_text(printed: &[u8], expected: &[u8]) -> Result<(), String> {
+    if printed == expected {
+        return Ok(());
+    }
+    let mut lines = printed.split(|&byte| byte == b'\n');
+    let mut expected_lines = expected.split(|&byte| byte == b'\n');
+    for number in 1.. {
+        let pair = (lines.next(), expected_lines.next());
+        if pair.0 != pair.1 {
+            let show = |line: Option<&[u8]>| {
+                line.map_or("(no line)".into(), |line| {
+                    String::from_utf8_lossy(&line[..line.len().min(80)]).into_owned()
+                })
+            };
+            return Err(format!(
+                "line {number} is `{}`, not `{}` ({} bytes printed, {} expected)",
+                show(pair.0),
+                show(pair.1),
+                printed.len(),
+                expected.len()
+            ));
+        }
+    }
+    unreachable!("texts that differ have a line that differs")
+}
+
+/// Waits for a program to end by itself. One that does not is ended, and the
+/// test fails.
+pub fn wait_for_end(child: &mut Child) -> ExitStatus {
+    let start = Instant::now();
+    loop {
+        if let Some(status) = child.try_wait().expect("the program can be waited for") {
+            return status;
+        }
+        if start.elapsed() > LONGEST_RUN {
+            let _ = child.kill();
+            let _ = child.wait();
+            panic!("the program does not end");
+        }
+        thread::sleep(Duration::from_millis(2));
+    }
+}

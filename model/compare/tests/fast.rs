@@ -1,0 +1,102 @@
+//! The rules written for speed give what the model gives: what they are
+//! measured against is no less work. Neither built thing is asked here.
+
+mod common;
+
+use common::*;
+use vigambul_compare::{fast, workloads};
+use vigambul_model::program::{self, read_trace};
+use vigambul_model::trace::LINE;
+
+#[test]
+fn the_fast_run_writes_what_the_model_writes() {
+    let mut counts = Counts::new(&[]);
+    for case in cases() {
+        let trace = read_trace(case.trace_bytes()).numbers;
+        let expected = model_log(case.policy_bytes(), &trace);
+        let mut log = vec![7; LINE * trace.len() + 1];
+        let status = fast::run(case.policy_bytes(), &trace, &mut log);
+        match expected {
+            Ok(expected) => {
+                assert_eq!(status, 0, "seed {}", case.seed);
+                assert_eq!(log[..expected.len()], expected, "seed {}", case.seed);
+                assert_eq!(log[expected.len()..], [7], "seed {}", case.seed);
+                if !trace.is_empty() {
+                    let short = &mut log[..LINE * trace.len() - 1];
+                    assert_eq!(fast::run(case.policy_bytes(), &trace, short), 15);
+                }
+            }
+            Err(number) => {
+                assert_eq!(status, number, "seed {}", case.seed);
+                assert!(log.iter().all(|&number| number == 7), "seed {}", case.seed);
+            }
+        }
+        counts.add(&case);
+    }
+    counts.require_all_met();
+}
+
+#[test]
+fn the_fast_run_writes_what_the_model_writes_on_the_workloads() {
+    let length = 50_000;
+    let all = workloads::main_workloads(length)
+        .into_iter()
+        .chain(workloads::long_turn_workloads(length));
+    for workload in all {
+        assert_eq!(workload.trace.len(), length, "{}", workload.name);
+        let expected = model_log(&workload.policy, &workload.trace).expect(workload.name);
+        let mut log = vec![0; LINE * length];
+        assert_eq!(fast::run(&workload.policy, &workload.trace, &mut log), 0);
+        assert!(log == expected, "{}", workload.name);
+    }
+}
+
+#[test]
+fn saturated_workloads_keep_every_queue_filled_and_the_mix_is_refused_in_every_way() {
+    for workload in workloads::main_workloads(50_000) {
+        let log = model_log(&workload.policy, &workload.trace).expect(workload.name);
+        let lines = log.chunks_exact(LINE);
+        if workload.name.contains("saturated") {
+            // No owner is passed over, so every class that exists owns turns.
+            let (classes, _) = vigambul_model::policy::read(&workload.policy);
+            for class in 0..classes.class_count() as u32 {
+                let owns = |line: &[u32]| line[3] & 0xFF == class + 1;
+                assert!(lines.clone().any(owns), "{}: {class}", workload.name);
+            }
+            assert!(lines.clone().all(|line| line[0] == 0), "{}", workload.name);
+        }
+        if workload.name.contains("refusals") {
+            for status in [0, 9, 10, 11, 14] {
+                assert!(lines.clone().any(|line| line[0] == status), "{status}");
+            }
+        }
+    }
+}
+
+#[test]
+fn the_fast_program_prints_what_the_model_prints() {
+    let folder = Folder::new("fast-program");
+    for case in cases().take(300) {
+        folder
+            .put("policy.bin", case.policy.as_deref())
+            .put("trace.bin", case.trace.as_deref());
+        let expected = program::output(case.policy_bytes(), case.trace_bytes());
+        let output = command_in(env!("CARGO_BIN_EXE_fast_program"), &folder)
+            .output()
+            .expect("the fast program starts");
+        if let Err(why) = check_output(&output, &expected) {
+            panic!("seed {} ({}): {why}", case.seed, case.change);
+        }
+    }
+    let file = diamond();
+    let mut trace = trace_file(&generated_trace(1, &file, 50_001));
+    trace.push(0);
+    folder.put_both(&file, &trace);
+    let output = command_in(env!("CARGO_BIN_EXE_fast_program"), &folder)
+        .output()
+        .expect("the fast program starts");
+    assert_eq!(
+        check_output(&output, &program::output(&file, &trace)),
+        Ok(())
+    );
+}

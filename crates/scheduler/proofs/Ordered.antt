@@ -62,13 +62,18 @@ module _ (rows covers lengths left : List ℕ) (order : Climbs rows covers) wher
       ∙ length-set pointers c (movedPointer covers pointers c))
       (either (takes covers lengths left c))
 
--- the owner of a turn is one of the sixteen, whether the turn starts or goes on
+-- the owner of a turn that starts is one of the sixteen
+pub start-owner : (p : Policy) → inRange p ≡ true → (k : ℕ) (lengths left pointers : List ℕ) → startTurn p k lengths left pointers .owner < 16
+unfolding startTurn ownedBy
+start-owner p given k lengths left pointers = owner-small (p .rows) (p .covers) lengths (leftAtStart p k left) (climbs p given) 16 pointers (least p) (least-small p given)
+
+-- and so is that of every turn, whether it starts or goes on
 pub turn-owner : (p : Policy) → inRange p ≡ true → (t : ℕ) (lengths : List ℕ) (turns : Turns) → turns .owner < 16 → turnsAt p t lengths turns .owner < 16
-unfolding turnsAt startTurn ownedBy
+unfolding turnsAt
 turn-owner p given t lengths turns l =
     ⊎-elim
     (λ e.
     subst (λ (r : Turns). r .owner < 16) (sym (on-true (turnStarts p t) (startTurn p (turnNumber p t) lengths (turns .left) (turns .pointers)) turns e))
-    (owner-small (p .rows) (p .covers) lengths (leftAtStart p (turnNumber p t) (turns .left)) (climbs p given) 16 (turns .pointers) (least p) (least-small p given)))
+    (start-owner p given (turnNumber p t) lengths (turns .left) (turns .pointers)))
     (λ e. subst (λ (r : Turns). r .owner < 16) (sym (on-false (turnStarts p t) (startTurn p (turnNumber p t) lengths (turns .left) (turns .pointers)) turns e)) l)
     (either (turnStarts p t))

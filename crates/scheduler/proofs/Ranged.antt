@@ -23,7 +23,11 @@ use Rattle.scheduler.specs.Ready.{Ready}
 use Rattle.scheduler.specs.declared.Queues.{Queues}
 use Rattle.scheduler.specs.declared.State.{State}
 
--- a sound word has a bank and a kind
+-- a sound word is an offer, and has a bank and a kind
+pub sound-offer : (n w : ℕ) → soundWord n w ≡ true → isOffer w ≡ true
+unfolding soundWord
+sound-offer n w e = and-three (isOffer w) (classFits n (requestOf w)) (bankAndKindFit (requestOf w)) e .0
+
 pub sound-bank : (n w : ℕ) → soundWord n w ≡ true → bankOf w < 8
 unfolding soundWord bankAndKindFit requestOf
 sound-bank n w e =
@@ -101,6 +105,7 @@ ready p s r t owner l =
       ticks-left = t;
       class = l;
       in-ring = q .in-ring;
+      head-offer = λ some. sound-offer (p .classes) (waitingAt (s .queues) owner 0) (sound some);
       head-bank = λ some. sound-bank (p .classes) (waitingAt (s .queues) owner 0) (sound some);
       head-kind = λ some. sound-kind (p .classes) (waitingAt (s .queues) owner 0) (sound some);
     }

@@ -1,9 +1,10 @@
 // The command wires: a due column command, or an activate of the head of the owner's queue.
 
 ghost use mathlib.Core.Path.{_≡_};
+ghost use mathlib.Core.Bool.{true};
 ghost use Prim.Native.Nat.{_%_, _<_};
 ghost use Rattle.policy.specs.Laws.{TimingLaws};
-ghost use Rattle.scheduler.specs.Word.{kindOf, bankOf};
+ghost use Rattle.scheduler.specs.Word.{kindOf, bankOf, isOffer, commandNumber};
 ghost use Rattle.scheduler.specs.Wire.{dueAt, sentAt, activateAt, gapMet, offsetAllows, gapsMetBy, activated};
 ghost use Rattle.scheduler.specs.Ready.{Ready};
 ghost use Rattle.scheduler.specs.Step.{drive};
@@ -12,9 +13,10 @@ use super::queueing;
 use super::words;
 use policy::Timing;
 
-// What the wires carried, and the last activate of all after it.
+// What the wires carried, its number in the log, and the last activate of all after it.
 pub struct Drove {
     pub wires: Wires,
+    pub command: u32,
     pub last: u32,
 }
 
@@ -91,25 +93,31 @@ pub(crate) fn drive(
     banks: &mut [u32; 8],
     last: u32,
 ) -> Drove
-    requires { ⌜ Ready timing cycle owner (record { slots = now slots; heads = now heads; lengths = now lengths }) × (offset ≡ cycle % timing .turn) ⌝ }
-    ensures { λ r. ⌜ record { wires = r .wires; queues = record { slots = now (slots .entry); heads = now (heads .exit); lengths = now (lengths .exit) }; flight = record { columns = now (columns .exit); responses = now (responses .exit); banks = now (banks .exit); last = r .last } } ≡ drive timing cycle owner elided (record { slots = now (slots .entry); heads = now (heads .entry); lengths = now (lengths .entry) }) (record { columns = now (columns .entry); responses = now (responses .entry); banks = now (banks .entry); last = last }) ⌝ }
+    requires { ⌜ Ready timing cycle owner (record { slots = now slots; heads = now heads; lengths = now lengths }) × (offset ≡ cycle % timing .turn) × (((dueAt (now columns) cycle ≡ 0) → ⊥) → isOffer (dueAt (now columns) cycle) ≡ true) ⌝ }
+    ensures { λ r. ⌜ (record { wires = r .wires; queues = record { slots = now (slots .entry); heads = now (heads .exit); lengths = now (lengths .exit) }; flight = record { columns = now (columns .exit); responses = now (responses .exit); banks = now (banks .exit); last = r .last } } ≡ drive timing cycle owner elided (record { slots = now (slots .entry); heads = now (heads .entry); lengths = now (lengths .entry) }) (record { columns = now (columns .entry); responses = now (responses .entry); banks = now (banks .entry); last = last })) × (r .command ≡ commandNumber (r .wires)) ⌝ }
 {
     let at = (cycle % 32) as usize;
     let due = columns[at];
     if due != 0 {
         columns[at] = 0;
         let wires = Wires::Column(words::request_of(due));
-        return Drove { wires, last };
+        return Drove {
+            wires,
+            command: due + 1073741824,
+            last,
+        };
     }
     if !offset_allows(timing, elided, cycle, offset) {
         return Drove {
             wires: Wires::Nothing,
+            command: 0,
             last,
         };
     }
     if lengths[owner] == 0 {
         return Drove {
             wires: Wires::Nothing,
+            command: 0,
             last,
         };
     }
@@ -119,6 +127,7 @@ pub(crate) fn drive(
     if !gaps_met(timing, last, banks[bank], word / 1048576 % 4, cycle) {
         return Drove {
             wires: Wires::Nothing,
+            command: 0,
             last,
         };
     }
@@ -127,6 +136,7 @@ pub(crate) fn drive(
     let wires = Wires::Activate(words::request_of(word));
     Drove {
         wires,
+        command: word,
         last: newest,
     }
 }

@@ -4,6 +4,7 @@ ghost use mathlib.Core.Path.{_≡_};
 ghost use mathlib.Core.Bool.{true};
 ghost use Prim.Native.Nat.{_+_, _%_, _<_};
 ghost use Rattle.policy.specs.Laws.{TimingLaws};
+ghost use Rattle.scheduler.specs.Word.{commandNumber};
 ghost use Rattle.scheduler.specs.Range.{inRange};
 ghost use Rattle.scheduler.specs.Call.{afterTick};
 ghost use Rattle.scheduler.specs.InPlace.{Lent, momentOf, stateOf};
@@ -33,6 +34,8 @@ pub struct Moment {
 pub struct Ticking {
     pub moment: Moment,
     pub shown: Record,
+    // The command's number in the log.
+    pub command: u32,
 }
 
 pub(crate) fn moment_of(p: Policy, s: State) -> Moment
@@ -123,7 +126,7 @@ pub(crate) fn tick_in_place(
     banks: &mut [u32; 8],
 ) -> Ticking
     requires { ⌜ (inRange p (stateOf m (now slots) (now heads) (now lengths) (now left) (now pointers) (now columns) (now responses) (now banks)) ≡ true) × (m .cycle < 16777215) × (m .offset ≡ m .cycle % p .timing .turn) × Lent p (m .bottom) (now rows) (now covers) (now caps) ⌝ }
-    ensures { λ r. ⌜ (record { status = 0; state = stateOf (r .moment) (now (slots .entry)) (now (heads .exit)) (now (lengths .exit)) (now (left .exit)) (now (pointers .exit)) (now (columns .exit)) (now (responses .exit)) (now (banks .exit)); shown = r .shown } ≡ afterTick p (stateOf m (now (slots .entry)) (now (heads .entry)) (now (lengths .entry)) (now (left .entry)) (now (pointers .entry)) (now (columns .entry)) (now (responses .entry)) (now (banks .entry)))) × (r .moment .offset ≡ r .moment .cycle % p .timing .turn) × (r .moment .bottom ≡ m .bottom) ⌝ }
+    ensures { λ r. ⌜ (record { status = 0; state = stateOf (r .moment) (now (slots .entry)) (now (heads .exit)) (now (lengths .exit)) (now (left .exit)) (now (pointers .exit)) (now (columns .exit)) (now (responses .exit)) (now (banks .exit)); shown = r .shown } ≡ afterTick p (stateOf m (now (slots .entry)) (now (heads .entry)) (now (lengths .entry)) (now (left .entry)) (now (pointers .entry)) (now (columns .entry)) (now (responses .entry)) (now (banks .entry)))) × (r .moment .offset ≡ r .moment .cycle % p .timing .turn) × (r .moment .bottom ≡ m .bottom) × (r .moment .classes ≡ m .classes) × (r .command ≡ commandNumber (r .shown .wires)) ⌝ }
 {
     let timing = p.timing;
     let before = Owned {
@@ -158,7 +161,7 @@ pub(crate) fn tick_in_place(
         m.last,
     );
     let response = driving::answer(m.cycle, responses);
-    let turn = turning::turn_shown(m.offset == 0, owned);
+    let turn = owned.turn;
     let wires = drove.wires;
     let shown = Record {
         wires,
@@ -174,5 +177,9 @@ pub(crate) fn tick_in_place(
         elided: owned.elided,
         last: drove.last,
     };
-    Ticking { moment, shown }
+    Ticking {
+        moment,
+        shown,
+        command: drove.command,
+    }
 }

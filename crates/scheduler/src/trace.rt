@@ -79,7 +79,7 @@ fn call_at(
     at: usize,
 ) -> Moment
     requires { ⌜ (inRange p (stateOf m (now slots) (now heads) (now lengths) (now left) (now pointers) (now columns) (now responses) (now banks)) ≡ true) × (m .offset ≡ m .cycle % p .timing .turn) × Lent p (m .bottom) (now rows) (now covers) (now caps) × (at + 4 ≤ length (now log)) ⌝ }
-    ensures { λ r. ⌜ (stateOf r (now (slots .exit)) (now (heads .exit)) (now (lengths .exit)) (now (left .exit)) (now (pointers .exit)) (now (columns .exit)) (now (responses .exit)) (now (banks .exit)) ≡ answerTo p (stateOf m (now (slots .entry)) (now (heads .entry)) (now (lengths .entry)) (now (left .entry)) (now (pointers .entry)) (now (columns .entry)) (now (responses .entry)) (now (banks .entry))) word .state) × (now (log .exit) ≡ written (now (log .entry)) at (answerTo p (stateOf m (now (slots .entry)) (now (heads .entry)) (now (lengths .entry)) (now (left .entry)) (now (pointers .entry)) (now (columns .entry)) (now (responses .entry)) (now (banks .entry))) word .status) (answerTo p (stateOf m (now (slots .entry)) (now (heads .entry)) (now (lengths .entry)) (now (left .entry)) (now (pointers .entry)) (now (columns .entry)) (now (responses .entry)) (now (banks .entry))) word .command) (answerTo p (stateOf m (now (slots .entry)) (now (heads .entry)) (now (lengths .entry)) (now (left .entry)) (now (pointers .entry)) (now (columns .entry)) (now (responses .entry)) (now (banks .entry))) word .response) (answerTo p (stateOf m (now (slots .entry)) (now (heads .entry)) (now (lengths .entry)) (now (left .entry)) (now (pointers .entry)) (now (columns .entry)) (now (responses .entry)) (now (banks .entry))) word .turn)) × (r .offset ≡ r .cycle % p .timing .turn) × (r .bottom ≡ m .bottom) ⌝ }
+    ensures { λ r. ⌜ (stateOf r (now (slots .exit)) (now (heads .exit)) (now (lengths .exit)) (now (left .exit)) (now (pointers .exit)) (now (columns .exit)) (now (responses .exit)) (now (banks .exit)) ≡ answerTo p (stateOf m (now (slots .entry)) (now (heads .entry)) (now (lengths .entry)) (now (left .entry)) (now (pointers .entry)) (now (columns .entry)) (now (responses .entry)) (now (banks .entry))) word .state) × (now (log .exit) ≡ written (now (log .entry)) at (answerTo p (stateOf m (now (slots .entry)) (now (heads .entry)) (now (lengths .entry)) (now (left .entry)) (now (pointers .entry)) (now (columns .entry)) (now (responses .entry)) (now (banks .entry))) word .status) (answerTo p (stateOf m (now (slots .entry)) (now (heads .entry)) (now (lengths .entry)) (now (left .entry)) (now (pointers .entry)) (now (columns .entry)) (now (responses .entry)) (now (banks .entry))) word .command) (answerTo p (stateOf m (now (slots .entry)) (now (heads .entry)) (now (lengths .entry)) (now (left .entry)) (now (pointers .entry)) (now (columns .entry)) (now (responses .entry)) (now (banks .entry))) word .response) (answerTo p (stateOf m (now (slots .entry)) (now (heads .entry)) (now (lengths .entry)) (now (left .entry)) (now (pointers .entry)) (now (columns .entry)) (now (responses .entry)) (now (banks .entry))) word .turn)) × (r .offset ≡ r .cycle % p .timing .turn) × (r .bottom ≡ m .bottom) × (r .classes ≡ m .classes) ⌝ }
 {
     let call = call_of(word);
     match call {
@@ -104,15 +104,7 @@ fn call_at(
                 banks,
             );
             let shown = after.shown;
-            let wires = shown.wires;
-            write(
-                log,
-                at,
-                0,
-                words::command_number(wires),
-                shown.response,
-                shown.turn,
-            );
+            write(log, at, 0, after.command, shown.response, shown.turn);
             after.moment
         }
         Call::Offer(r) => {
@@ -127,7 +119,8 @@ fn call_at(
     }
 }
 
-// The calls of a whole trace, on a state in range: the arrays are moved into locals once, and put together at the end.
+// The calls of a whole trace, on a state in range: its arrays and numbers are moved into locals once, and put together at the end. (The numbers are locals of their
+// own from call to call: a struct would be copied with the gaps between its fields.)
 fn advance(s: State, p: Policy, trace: &[u32], log: &mut [u32]) -> State
     requires { ⌜ (inRange p s ≡ true) × (4 * length (now trace) ≤ length (now log)) ⌝ }
     ensures { λ r. ⌜ (r ≡ stateAfter p s (now (trace .entry))) × (now (log .exit) ≡ logOf p s (now (trace .entry)) ++ drop (4 * length (now (trace .entry))) (now (log .entry))) ⌝ }
@@ -146,10 +139,26 @@ fn advance(s: State, p: Policy, trace: &[u32], log: &mut [u32]) -> State
     let mut columns = flight.columns;
     let mut responses = flight.responses;
     let mut banks = flight.banks;
-    let mut m = ticking::moment_of(p, s);
+    let start = ticking::moment_of(p, s);
+    let bottom = start.bottom;
+    let classes = start.classes;
+    let mut cycle = start.cycle;
+    let mut offset = start.offset;
+    let mut owner = start.owner;
+    let mut elided = start.elided;
+    let mut last = start.last;
     let mut i = 0;
     while i < trace.len() {
-        m = call_at(
+        let m = Moment {
+            cycle,
+            offset,
+            bottom,
+            classes,
+            owner,
+            elided,
+            last,
+        };
+        let after = call_at(
             p,
             m,
             trace[i],
@@ -167,10 +176,24 @@ fn advance(s: State, p: Policy, trace: &[u32], log: &mut [u32]) -> State
             log,
             4 * i,
         );
+        cycle = after.cycle;
+        offset = after.offset;
+        owner = after.owner;
+        elided = after.elided;
+        last = after.last;
         i += 1;
     }
+    let end = Moment {
+        cycle,
+        offset,
+        bottom,
+        classes,
+        owner,
+        elided,
+        last,
+    };
     ticking::state_of(
-        m,
+        end,
         slots,
         heads,
         lengths,

@@ -2,13 +2,14 @@
 // the policy, so that none is copied where a turn starts.
 
 ghost use mathlib.Core.Path.{_≡_};
-ghost use mathlib.Core.Bool.{true, cond};
+ghost use mathlib.Core.Bool.{true};
 ghost use Prim.Native.Nat.{_-_, _%_, _<_};
 ghost use lib.ListN.{length};
 ghost use Rattle.policy.specs.Policy.{inRange};
 ghost use Rattle.scheduler.specs.Traversal.{charge};
 ghost use Rattle.scheduler.specs.Lookahead.{elides};
 ghost use Rattle.scheduler.specs.Step.{leftAtStart, startTurn, turnsAt, turnWord};
+ghost use Rattle.scheduler.specs.Call.{turnShown};
 ghost use Rattle.scheduler.specs.InPlace.{Lent};
 use super::lookahead;
 use super::traversal;
@@ -18,6 +19,13 @@ use policy::Policy;
 pub struct Owned {
     pub owner: usize,
     pub elided: bool,
+}
+
+// What a tick's first step left, beside the arrays, and the turn's number in the log.
+pub struct Started {
+    pub owner: usize,
+    pub elided: bool,
+    pub turn: u32,
 }
 
 // The turns left as a turn starts: the caps, at an epoch's start.
@@ -87,6 +95,19 @@ fn start_turn(
     Owned { owner, elided }
 }
 
+// A started turn's number in the log.
+fn turn_word(owned: Owned) -> u32
+    requires { ⌜ owned .owner < 16 ⌝ }
+    ensures { λ r. ⌜ r ≡ turnWord (owned .owner) (owned .elided) ⌝ }
+{
+    let owner = owned.owner as u32;
+    if owned.elided {
+        1 + owner + 256
+    } else {
+        1 + owner + 0
+    }
+}
+
 // The turns as a tick has them: a turn starts at each multiple of the turn length.
 pub(crate) fn turns_at(
     p: Policy,
@@ -100,15 +121,19 @@ pub(crate) fn turns_at(
     before: Owned,
     left: &mut [u32; 16],
     pointers: &mut [usize; 16],
-) -> Owned
+) -> Started
     requires { ⌜ (inRange p ≡ true) × (cycle < 16777215) × (offset ≡ cycle % p .timing .turn) × Lent p bottom (now rows) (now covers) (now caps) × (length (now pointers) ≡ 16) ⌝ }
-    ensures { λ r. ⌜ record { owner = r .owner; elided = r .elided; left = now (left .exit); pointers = now (pointers .exit) } ≡ turnsAt p cycle (now (lengths .entry)) (record { owner = before .owner; elided = before .elided; left = now (left .entry); pointers = now (pointers .entry) }) ⌝ }
+    ensures { λ r. ⌜ (record { owner = r .owner; elided = r .elided; left = now (left .exit); pointers = now (pointers .exit) } ≡ turnsAt p cycle (now (lengths .entry)) (record { owner = before .owner; elided = before .elided; left = now (left .entry); pointers = now (pointers .entry) })) × (r .turn ≡ turnShown p cycle (record { owner = r .owner; elided = r .elided; left = now (left .exit); pointers = now (pointers .exit) })) ⌝ }
 {
     if offset != 0 {
-        return before;
+        return Started {
+            owner: before.owner,
+            elided: before.elided,
+            turn: 0,
+        };
     }
     let timing = p.timing;
-    start_turn(
+    let owned = start_turn(
         p,
         bottom,
         cycle / timing.turn,
@@ -118,21 +143,11 @@ pub(crate) fn turns_at(
         lengths,
         left,
         pointers,
-    )
-}
-
-// The turn's number in the log: 0 unless one starts.
-pub(crate) fn turn_shown(starts: bool, owned: Owned) -> u32
-    requires { ⌜ owned .owner < 16 ⌝ }
-    ensures { λ r. ⌜ r ≡ cond starts (turnWord (owned .owner) (owned .elided)) 0 ⌝ }
-{
-    if !starts {
-        return 0;
-    }
-    let owner = owned.owner as u32;
-    if owned.elided {
-        1 + owner + 256
-    } else {
-        1 + owner + 0
+    );
+    let turn = turn_word(owned);
+    Started {
+        owner: owned.owner,
+        elided: owned.elided,
+        turn,
     }
 }

@@ -1,23 +1,25 @@
 -- `scheduler::driving::drive` meets its contract: each return is one of the three outcomes of `proofs/Drives.antt`, by the tests that led to it.
 -- Assumes nothing.
-use mathlib.Core.Path.{_≡_, sym, ap, _∙_, subst}
+use mathlib.Core.Path.{_≡_, refl, sym, ap, _∙_, subst}
 use mathlib.Core.Bool.{true, not, _&&_}
-use Prim.Native.Nat.{ℕ, _/_, _%_, _<_, zero-le}
+use Prim.Native.Nat.{ℕ, _+_, _/_, _%_, _<_, zero-le}
 use native.Mathlib.Omega.{arith}
 use borrow.Author.Needs.{needs}
-use borrow.Author.Tests.{eq-eqb, ne-eqb}
+use borrow.Author.Tests.{eqb-true, eq-eqb, ne-eqb}
 use lib.Arith.{lt-of-le-ne}
 use lib.Dec.{eqb}
 use lib.ListN.{getD}
-use Rattle.policy.proofs.Truth.{not-true, not-not, not-false, and-both, and-fails-left, and-fails-right}
-use Rattle.scheduler.specs.Word.{kindOf, bankOf, requestOf}
+use Rattle.policy.proofs.Truth.{and-left, not-true, not-not, not-false, and-both, and-fails-left, and-fails-right}
+use Rattle.scheduler.specs.Word.{kindOf, bankOf, requestOf, wordOf, isOffer, commandNumber}
 use Rattle.scheduler.specs.Queue.{headOf, lengthOf, place, waitingAt, dequeue}
 use Rattle.scheduler.specs.Wire.{dueAt, sentAt, gapsMetBy, gapsMet, offsetAllows, activated}
 use Rattle.scheduler.specs.Step.{Driven, canActivate}
 use Rattle.scheduler.specs.declared.Wires.{Wires}
 use Rattle.scheduler.specs.declared.Wires.the-variants.{Activate}
+use Rattle.scheduler.specs.declared.Request.{Request}
 use Rattle.scheduler.specs.declared.Queues.{Queues}
 use Rattle.scheduler.specs.declared.Flight.{Flight}
+use Rattle.scheduler.proofs.Reading.{word-back}
 use Rattle.scheduler.proofs.Drives.{drive-column, drive-nothing, drive-activate}
 use Rattle.scheduler.proofs.driving.drive.Statement.{statement}
 use Rattle.scheduler.proofs.driving.drive.Tie as tie
@@ -84,18 +86,30 @@ element-write-columns c = search needs
 request-of-requires : tie.Need-request-of-requires
 request-of-requires c κs = search needs
 
+-- the due word is an offer, since one is due
+due-offer : (c : tie.Then1) → isOffer (dueAt (c .before .before .args .columns .now) (c .before .before .args .cycle)) ≡ true
+unfolding dueAt
+due-offer c = c .before .before .pre .2 (c .if1 .taken)
+
+add-t30 : tie.Need-add-t30
+unfolding dueAt isOffer
+add-t30 c =
+    let w = dueAt (c .before .before .before .args .columns .now) (c .before .before .before .args .cycle) in
+    let top = eqb-true (w / 536870912) 4 (and-left (eqb (w / 536870912) 4) (eqb (w / 4194304 % 4) 0) (due-offer (c .before))) in
+    omega (arith, top)
+
 returns : tie.Need-returns
-unfolding dueAt sentAt
-returns c = rw (c .request-of .ensures) (sym (drive-column (c .before .before .before .args .timing) (c .before .before .before .args .cycle) (c .before .before .before .args .owner) (c .before .before .before .args .elided) (queues-of (c .before .before .before)) (flight-of (c .before .before .before)) (ne-eqb _ 0 (c .before .if1 .taken))))
+unfolding dueAt sentAt commandNumber
+returns c = (rw (c .request-of .ensures) (sym (drive-column (c .before .before .before .args .timing) (c .before .before .before .args .cycle) (c .before .before .before .args .owner) (c .before .before .before .args .elided) (queues-of (c .before .before .before)) (flight-of (c .before .before .before)) (ne-eqb _ 0 (c .before .if1 .taken)))), ap (λ (k : ℕ). k + 1073741824) (sym (word-back _ (due-offer (c .before)))) ∙ sym (ap (λ (r : Request). wordOf r + 1073741824) (c .request-of .ensures)))
 
 offset-allows-requires : tie.Need-offset-allows-requires
 offset-allows-requires c κs = search needs
 
 returns-2 : tie.Need-returns-2
-unfolding canActivate
+unfolding commandNumber canActivate
 returns-2 c =
     let out = and-fails-left (offsetAllows (c .before .before .before .before .args .timing) (c .before .before .before .before .args .elided) (c .before .before .before .before .args .cycle)) (not (eqb (lengthOf (queues-of (c .before .before .before .before)) (c .before .before .before .before .args .owner)) 0)) (sym (c .before .offset-allows .ensures) ∙ not-true _ (c .if2 .taken)) in
-    sym (drive-nothing (c .before .before .before .before .args .timing) (c .before .before .before .before .args .cycle) (c .before .before .before .before .args .owner) (c .before .before .before .before .args .elided) (queues-of (c .before .before .before .before)) (flight-of (c .before .before .before .before)) (none-due (c .before .before)) (and-fails-left _ (gapsMet (c .before .before .before .before .args .timing) (flight-of (c .before .before .before .before)) (waitingAt (queues-of (c .before .before .before .before)) (c .before .before .before .before .args .owner) 0) (c .before .before .before .before .args .cycle)) out))
+    (sym (drive-nothing (c .before .before .before .before .args .timing) (c .before .before .before .before .args .cycle) (c .before .before .before .before .args .owner) (c .before .before .before .before .args .elided) (queues-of (c .before .before .before .before)) (flight-of (c .before .before .before .before)) (none-due (c .before .before)) (and-fails-left _ (gapsMet (c .before .before .before .before .args .timing) (flight-of (c .before .before .before .before)) (waitingAt (queues-of (c .before .before .before .before)) (c .before .before .before .before .args .owner) 0) (c .before .before .before .before .args .cycle)) out)), refl)
 
 mul-if3 : tie.Need-mul-if3
 mul-if3 c = search needs
@@ -104,10 +118,10 @@ element-copy-out-if3 : tie.Need-element-copy-out-if3
 element-copy-out-if3 c = search needs
 
 returns-3 : tie.Need-returns-3
-unfolding canActivate lengthOf
+unfolding commandNumber canActivate lengthOf
 returns-3 c =
     let out = and-fails-right (offsetAllows (c .before .before .before .before .before .before .args .timing) (c .before .before .before .before .before .before .args .elided) (c .before .before .before .before .before .before .args .cycle)) (not (eqb (lengthOf (queues-of (c .before .before .before .before .before .before)) (c .before .before .before .before .before .before .args .owner)) 0)) (ap not (eq-eqb _ 0 (c .if3 .taken))) in
-    sym (drive-nothing (c .before .before .before .before .before .before .args .timing) (c .before .before .before .before .before .before .args .cycle) (c .before .before .before .before .before .before .args .owner) (c .before .before .before .before .before .before .args .elided) (queues-of (c .before .before .before .before .before .before)) (flight-of (c .before .before .before .before .before .before)) (none-due (c .before .before .before .before)) (and-fails-left _ (gapsMet (c .before .before .before .before .before .before .args .timing) (flight-of (c .before .before .before .before .before .before)) (waitingAt (queues-of (c .before .before .before .before .before .before)) (c .before .before .before .before .before .before .args .owner) 0) (c .before .before .before .before .before .before .args .cycle)) out))
+    (sym (drive-nothing (c .before .before .before .before .before .before .args .timing) (c .before .before .before .before .before .before .args .cycle) (c .before .before .before .before .before .before .args .owner) (c .before .before .before .before .before .before .args .elided) (queues-of (c .before .before .before .before .before .before)) (flight-of (c .before .before .before .before .before .before)) (none-due (c .before .before .before .before)) (and-fails-left _ (gapsMet (c .before .before .before .before .before .before .args .timing) (flight-of (c .before .before .before .before .before .before)) (waitingAt (queues-of (c .before .before .before .before .before .before)) (c .before .before .before .before .before .before .args .owner) 0) (c .before .before .before .before .before .before .args .cycle)) out)), refl)
 
 mul-place : tie.Need-mul-place
 mul-place c = search needs
@@ -142,10 +156,10 @@ unfolding kindOf
 gaps-met-requires c κs = (c .before .before .before .before .before .before .before .before .before .before .pre .0 .timed, head-kind (c .before .before), c .before .before .before .before .before .before .before .before .before .before .pre .0 .ticks-left)
 
 returns-4 : tie.Need-returns-4
-unfolding canActivate
+unfolding commandNumber canActivate
 returns-4 c =
     let out = gaps-are (c .before) ∙ not-true _ (c .if4 .taken) in
-    sym (drive-nothing (c .before .before .before .before .before .before .before .before .before .before .before .before .args .timing) (c .before .before .before .before .before .before .before .before .before .before .before .before .args .cycle) (c .before .before .before .before .before .before .before .before .before .before .before .before .args .owner) (c .before .before .before .before .before .before .before .before .before .before .before .before .args .elided) (queues-of (c .before .before .before .before .before .before .before .before .before .before .before .before)) (flight-of (c .before .before .before .before .before .before .before .before .before .before .before .before)) (none-due (c .before .before .before .before .before .before .before .before .before .before)) (and-fails-right (offsetAllows (c .before .before .before .before .before .before .before .before .before .before .before .before .args .timing) (c .before .before .before .before .before .before .before .before .before .before .before .before .args .elided) (c .before .before .before .before .before .before .before .before .before .before .before .before .args .cycle) && not (eqb (lengthOf (queues-of (c .before .before .before .before .before .before .before .before .before .before .before .before)) (c .before .before .before .before .before .before .before .before .before .before .before .before .args .owner)) 0)) (gapsMet (c .before .before .before .before .before .before .before .before .before .before .before .before .args .timing) (flight-of (c .before .before .before .before .before .before .before .before .before .before .before .before)) (waitingAt (queues-of (c .before .before .before .before .before .before .before .before .before .before .before .before)) (c .before .before .before .before .before .before .before .before .before .before .before .before .args .owner) 0) (c .before .before .before .before .before .before .before .before .before .before .before .before .args .cycle)) out))
+    (sym (drive-nothing (c .before .before .before .before .before .before .before .before .before .before .before .before .args .timing) (c .before .before .before .before .before .before .before .before .before .before .before .before .args .cycle) (c .before .before .before .before .before .before .before .before .before .before .before .before .args .owner) (c .before .before .before .before .before .before .before .before .before .before .before .before .args .elided) (queues-of (c .before .before .before .before .before .before .before .before .before .before .before .before)) (flight-of (c .before .before .before .before .before .before .before .before .before .before .before .before)) (none-due (c .before .before .before .before .before .before .before .before .before .before)) (and-fails-right (offsetAllows (c .before .before .before .before .before .before .before .before .before .before .before .before .args .timing) (c .before .before .before .before .before .before .before .before .before .before .before .before .args .elided) (c .before .before .before .before .before .before .before .before .before .before .before .before .args .cycle) && not (eqb (lengthOf (queues-of (c .before .before .before .before .before .before .before .before .before .before .before .before)) (c .before .before .before .before .before .before .before .before .before .before .before .before .args .owner)) 0)) (gapsMet (c .before .before .before .before .before .before .before .before .before .before .before .before .args .timing) (flight-of (c .before .before .before .before .before .before .before .before .before .before .before .before)) (waitingAt (queues-of (c .before .before .before .before .before .before .before .before .before .before .before .before)) (c .before .before .before .before .before .before .before .before .before .before .before .before .args .owner) 0) (c .before .before .before .before .before .before .before .before .before .before .before .before .args .cycle)) out)), refl)
 
 dequeue-requires : tie.Need-dequeue-requires
 unfolding headOf lengthOf
@@ -161,16 +175,18 @@ request-of-requires-2 : tie.Need-request-of-requires-2
 request-of-requires-2 c κs = search needs
 
 returns-5 : tie.Need-returns-5
-unfolding canActivate dequeue headOf lengthOf
+unfolding commandNumber canActivate dequeue headOf lengthOf
 returns-5 c =
     let start = c .before .before .before .before .before .before .before .before .before .before .before .before .before .before .before .before .before .before .before .before in
     let queued = c .before .before .before .before .before .dequeue .ensures in
     let can : canActivate (c .before .before .before .before .before .before .before .before .before .before .before .before .before .before .before .before .before .before .before .before .args .timing) (c .before .before .before .before .before .before .before .before .before .before .before .before .before .before .before .before .before .before .before .before .args .cycle) (c .before .before .before .before .before .before .before .before .before .before .before .before .before .before .before .before .before .before .before .before .args .owner) (c .before .before .before .before .before .before .before .before .before .before .before .before .before .before .before .before .before .before .before .before .args .elided) (queues-of (c .before .before .before .before .before .before .before .before .before .before .before .before .before .before .before .before .before .before .before .before)) (flight-of (c .before .before .before .before .before .before .before .before .before .before .before .before .before .before .before .before .before .before .before .before)) ≡ true = and-both (and-both (allowed (c .before .before .before .before .before .before .before .before .before .before .before .before .before .before .before .before)) (not-false _ (ne-eqb _ 0 (waits (c .before .before .before .before .before .before .before .before .before .before .before .before .before .before))))) (gaps-are (c .before .before .before .before .before .before .before .before .before) ∙ not-not _ (c .before .before .before .before .before .before .before .before .if4 .left)) in
-    let head = word-is (c .before .before .before .before .before .before .before .before .before .before .before .before) in
-    rw (c .request-of2 .ensures, queued .0, queued .1)
-    (ap (sent (Activate (requestOf (getD (start .args .slots .now) (c .before .before .before .before .before .before .before .before .before .before .before .before .place .result) 0))) (dequeue (queues-of (c .before .before .before .before .before .before .before .before .before .before .before .before .before .before .before .before .before .before .before .before)) (start .args .owner))) (c .before .activate .ensures)
-    ∙ ap (λ (w : ℕ). sent (Activate (requestOf w)) (dequeue (queues-of (c .before .before .before .before .before .before .before .before .before .before .before .before .before .before .before .before .before .before .before .before)) (start .args .owner)) (activated (start .args .timing) (start .args .columns .now) (start .args .responses .now) (start .args .banks .now) w (start .args .cycle))) head
-    ∙ sym (drive-activate (c .before .before .before .before .before .before .before .before .before .before .before .before .before .before .before .before .before .before .before .before .args .timing) (c .before .before .before .before .before .before .before .before .before .before .before .before .before .before .before .before .before .before .before .before .args .cycle) (c .before .before .before .before .before .before .before .before .before .before .before .before .before .before .before .before .before .before .before .before .args .owner) (c .before .before .before .before .before .before .before .before .before .before .before .before .before .before .before .before .before .before .before .before .args .elided) (queues-of (c .before .before .before .before .before .before .before .before .before .before .before .before .before .before .before .before .before .before .before .before)) (flight-of (c .before .before .before .before .before .before .before .before .before .before .before .before .before .before .before .before .before .before .before .before)) (none-due (c .before .before .before .before .before .before .before .before .before .before .before .before .before .before .before .before .before .before)) can))
+    let head = word-is (c .before .before .before .before .before .before .before .before .before .before .before .before) in (
+      rw (c .request-of2 .ensures, queued .0, queued .1)
+          (ap (sent (Activate (requestOf (getD (start .args .slots .now) (c .before .before .before .before .before .before .before .before .before .before .before .before .place .result) 0))) (dequeue (queues-of (c .before .before .before .before .before .before .before .before .before .before .before .before .before .before .before .before .before .before .before .before)) (start .args .owner))) (c .before .activate .ensures)
+          ∙ ap (λ (w : ℕ). sent (Activate (requestOf w)) (dequeue (queues-of (c .before .before .before .before .before .before .before .before .before .before .before .before .before .before .before .before .before .before .before .before)) (start .args .owner)) (activated (start .args .timing) (start .args .columns .now) (start .args .responses .now) (start .args .banks .now) w (start .args .cycle))) head
+          ∙ sym (drive-activate (c .before .before .before .before .before .before .before .before .before .before .before .before .before .before .before .before .before .before .before .before .args .timing) (c .before .before .before .before .before .before .before .before .before .before .before .before .before .before .before .before .before .before .before .before .args .cycle) (c .before .before .before .before .before .before .before .before .before .before .before .before .before .before .before .before .before .before .before .before .args .owner) (c .before .before .before .before .before .before .before .before .before .before .before .before .before .before .before .before .before .before .before .before .args .elided) (queues-of (c .before .before .before .before .before .before .before .before .before .before .before .before .before .before .before .before .before .before .before .before)) (flight-of (c .before .before .before .before .before .before .before .before .before .before .before .before .before .before .before .before .before .before .before .before)) (none-due (c .before .before .before .before .before .before .before .before .before .before .before .before .before .before .before .before .before .before)) can)),
+      sym (word-back _ (subst (λ (w : ℕ). isOffer w ≡ true) (sym head) (start .pre .0 .head-offer (waits (c .before .before .before .before .before .before .before .before .before .before .before .before .before .before))))) ∙ sym (ap wordOf (c .request-of2 .ensures)),
+    )
 
 pub drive-spec : {M : Type 1} → statement M
 drive-spec =
@@ -182,6 +198,7 @@ drive-spec =
     mul-columns
     element-write-columns
     request-of-requires
+    add-t30
     returns
     offset-allows-requires
     returns-2

@@ -1,16 +1,18 @@
 -- `scheduler::ticking::tick_in_place` meets its contract: the turns, the wires and the response are those of the definition, one after the other.
 -- Assumes nothing.
 use mathlib.Core.Path.{_≡_, refl, sym, ap, ap₂, _∙_, subst}
-use mathlib.Core.Bool.{cond}
+use mathlib.Core.Logic.{⊎-elim}
+use mathlib.Core.Bool.{true}
 use mathlib.Core.List.{List}
-use Prim.Native.Nat.{ℕ, _<_}
+use Prim.Native.Nat.{ℕ, _+_, _<_}
 use native.Mathlib.Omega.{arith}
 use native.Mathlib.Nat.{lt-of-lt-of-le}
 use borrow.Author.Needs.{needs}
-use lib.Dec.{eqb}
+use lib.Dec.{lit<}
 use Rattle.policy.proofs.Laws.{policy-laws}
+use Rattle.scheduler.specs.Word.{isOffer}
 use Rattle.scheduler.specs.Wire.{dueAt}
-use Rattle.scheduler.specs.Step.{turnStarts, turnsAt, turnWord, Driven, drive, answered}
+use Rattle.scheduler.specs.Step.{turnsAt, Driven, drive, answered}
 use Rattle.scheduler.specs.Call.{turnShown, afterTick}
 use Rattle.scheduler.specs.InPlace.{stateOf}
 use Rattle.scheduler.specs.declared.Turns.{Turns}
@@ -21,7 +23,7 @@ use Rattle.scheduler.specs.declared.Wires.{Wires}
 use Rattle.scheduler.specs.declared.State.{State}
 use Rattle.scheduler.specs.declared.Ticked.{Ticked}
 use Rattle.scheduler.proofs.Ordered.{turn-owner}
-use Rattle.scheduler.proofs.Ranged.{Ranged, ranged, ready}
+use Rattle.scheduler.proofs.Ranged.{Ranged, ranged, ready, sound-offer}
 use Rattle.scheduler.proofs.Whole.{whole}
 use Rattle.scheduler.proofs.ticking.tick_in_place.Statement.{statement}
 use Rattle.scheduler.proofs.ticking.tick_in_place.Tie as tie
@@ -67,7 +69,7 @@ owner-small : (c : tie.After-turns-at) → c .turns-at .result .owner < 16
 owner-small c =
     let s = c .before .before .before .before .before in
     let r = fit s in
-    subst (λ (t : Turns). t .owner < 16) (sym (c .turns-at .ensures))
+    subst (λ (t : Turns). t .owner < 16) (sym (c .turns-at .ensures .0))
     (turn-owner (s .args .p) (r .fit) (s .args .m .cycle) (s .args .lengths .now) (given s .turns)
     (lt-of-lt-of-le (r .owner-class) (policy-laws (s .args .p) (r .fit) .order .classes-few .1)))
 
@@ -84,47 +86,53 @@ driven c =
 driven-right : (c : tie.After-drive) → driven c ≡ drive (c .before .before .before .before .before .before .before .before .before .before .before .args .p .timing) (c .before .before .before .before .before .before .before .before .before .before .before .args .m .cycle) (turning (c .before .before .before .before .before .before .before .before .before .before .before) .owner) (turning (c .before .before .before .before .before .before .before .before .before .before .before) .elided) (given (c .before .before .before .before .before .before .before .before .before .before .before) .queues) (given (c .before .before .before .before .before .before .before .before .before .before .before) .flight)
 driven-right c =
     let s = c .before .before .before .before .before .before .before .before .before .before .before in
-    c .drive .ensures
-    ∙ ap (λ (t : Turns). drive (s .args .p .timing) (s .args .m .cycle) (t .owner) (t .elided) (given s .queues) (given s .flight)) (c .before .before .before .before .before .before .turns-at .ensures)
+    c .drive .ensures .0
+    ∙ ap (λ (t : Turns). drive (s .args .p .timing) (s .args .m .cycle) (t .owner) (t .elided) (given s .queues) (given s .flight)) (c .before .before .before .before .before .before .turns-at .ensures .0)
 
 turns-at-requires : tie.Need-turns-at-requires
 turns-at-requires c κs = let s = c .before .before .before .before in (fit s .fit, s .pre .1, s .pre .2, s .pre .3, whole (s .args .p) (given s) (s .pre .0) .turns-fit .pointers-fit .sixteen)
 
+-- a due column's word is an offer
+due-offer : (c : tie.Start) → (dueAt (c .args .columns .now) (c .args .m .cycle) ≡ 0 → ⊥) → isOffer (dueAt (c .args .columns .now) (c .args .m .cycle)) ≡ true
+due-offer c some =
+    let t = c .args .m .cycle in
+    let columns = c .args .columns .now in
+    let here : t + 0 ≡ t = omega arith in
+    let pending = whole (c .args .p) (given c) (c .pre .0) .flight-fit .columns-due 0 (lit< tt) in
+    subst (λ (k : ℕ). isOffer (dueAt columns k) ≡ true) here
+    (⊎-elim (λ none. absurd (some (ap (dueAt columns) (sym here) ∙ none))) (λ fits. sound-offer (c .args .p .classes) (dueAt columns (t + 0)) (fits .1)) pending)
+
 drive-requires : tie.Need-drive-requires
 drive-requires c κs =
     let s = c .before .before .before .before .before .before .before .before .before .before in
-    (ready (s .args .p) (given s) (fit s) (s .pre .1) (c .before .before .before .before .before .turns-at .result .owner) (owner-small (c .before .before .before .before .before)), s .pre .2)
+    (ready (s .args .p) (given s) (fit s) (s .pre .1) (c .before .before .before .before .before .turns-at .result .owner) (owner-small (c .before .before .before .before .before)), s .pre .2, due-offer s)
 
 answer-requires : tie.Need-answer-requires
 answer-requires c κs = search needs
 
-turn-shown-requires : tie.Need-turn-shown-requires
-turn-shown-requires c κs = owner-small (c .before .before .before .before .before .before .before .before .before)
-
-add-t33 : tie.Need-add-t33
-add-t33 c = omega (arith, c .before .before .before .before .before .before .before .before .before .before .before .before .before .before .before .before .pre .1)
+add-t32 : tie.Need-add-t32
+add-t32 c = omega (arith, c .before .before .before .before .before .before .before .before .before .before .before .before .before .before .pre .1)
 
 next-offset-requires : tie.Need-next-offset-requires
-next-offset-requires c κs = let s = c .before .before .before .before .before .before .before .before .before .before .before .before .before .before .before .before in (policy-laws (s .args .p) (fit s .fit) .timed, s .pre .2)
+next-offset-requires c κs = let s = c .before .before .before .before .before .before .before .before .before .before .before .before .before .before in (policy-laws (s .args .p) (fit s .fit) .timed, s .pre .2)
 
 returns : tie.Need-returns
-unfolding afterTick answered turnShown turnStarts
+unfolding afterTick answered
 returns c =
-    let s = c .before .before .before .before .before .before .before .before .before .before .before .before .before .before .before .before .before in
+    let s = c .before .before .before .before .before .before .before .before .before .before .before .before .before .before .before in
     let t = s .args .m .cycle in
-    let turns = c .before .before .before .before .before .before .before .before .before .before .before .before .turns-at .ensures in
-    let owned = c .before .before .before .before .before .before .before .before .before .before .before .before .turns-at .result in
-    let d = driven-right (c .before .before .before .before .before .before) in (
+    let turns = c .before .before .before .before .before .before .before .before .before .before .turns-at .ensures .0 in
+    let d = driven-right (c .before .before .before .before) in (
       ticked-same
           (later-same (ap (λ (d : Driven). d .queues) d) turns
-          (ap (left-flying (driven (c .before .before .before .before .before .before) .flight)) (c .before .before .before .before .answer .ensures .1) ∙ ap (λ (d : Driven). answered t (d .flight)) d))
+          (ap (left-flying (driven (c .before .before .before .before) .flight)) (c .before .before .answer .ensures .1) ∙ ap (λ (d : Driven). answered t (d .flight)) d))
           (showing-same (ap (λ (d : Driven). d .wires) d)
-          (c .before .before .before .before .answer .ensures .0 ∙ ap (λ (d : Driven). dueAt (d .flight .responses) t) d)
-          (c .before .before .turn-shown .ensures
-          ∙ ap (λ (k : ℕ). cond (eqb k 0) (turnWord (owned .owner) (owned .elided)) 0) (s .pre .2)
-          ∙ ap (turnShown (s .args .p) t) turns)),
+          (c .before .before .answer .ensures .0 ∙ ap (λ (d : Driven). dueAt (d .flight .responses) t) d)
+          (c .before .before .before .before .before .before .before .before .before .before .turns-at .ensures .1 ∙ ap (turnShown (s .args .p) t) turns)),
       c .next-offset .ensures,
       refl,
+      refl,
+      c .before .before .before .before .drive .ensures .1,
     )
 
 pub tick-in-place-spec : {M : Type 1} → statement M
@@ -134,7 +142,6 @@ tick-in-place-spec =
     turns-at-requires
     drive-requires
     answer-requires
-    turn-shown-requires
-    add-t33
+    add-t32
     next-offset-requires
     returns)

@@ -1,7 +1,7 @@
 -- `scheduler::trace::advance` meets its contract: after i turns of the loop the state and the log are those after the first i words, and the state is in range.
 -- Assumes nothing.
 use mathlib.Core.Path.{_≡_, refl, sym, ap, ap₂, _∙_, subst}
-use mathlib.Core.Bool.{true}
+use mathlib.Core.Bool.{Bool, true}
 use mathlib.Core.List.{List, _++_}
 use Prim.Native.Nat.{ℕ, _+_, _-_, _*_, _%_, _≤_, zero-le}
 use native.Mathlib.Omega.{arith}
@@ -43,12 +43,16 @@ put-long log at a =
     ∙ length-set (set log at (a .status)) (at + 1) (a .command)
     ∙ length-set log at (a .status)
 
+-- the numbers of a state, put together
+abbrev numbers : ℕ → ℕ → ℕ → ℕ → ℕ → Bool → ℕ → Moment
+numbers cycle offset bottom classes owner elided last = record { cycle = cycle; offset = offset; bottom = bottom; classes = classes; owner = owner; elided = elided; last = last }
+
 abbrev Inv-loop : tie.InvT-loop
-Inv-loop p trace log₀ rows covers caps slots₀ heads₀ lengths₀ left₀ pointers₀ columns₀ responses₀ banks₀ m₀ i₀ log slots heads lengths left pointers columns responses banks m i =
-    After p rows covers caps trace log₀ (stateOf m₀ slots₀ heads₀ lengths₀ left₀ pointers₀ columns₀ responses₀ banks₀) log m (stateOf m slots heads lengths left pointers columns responses banks) i
+Inv-loop p trace log₀ rows covers caps slots₀ heads₀ lengths₀ left₀ pointers₀ columns₀ responses₀ banks₀ bottom classes cycle₀ offset₀ owner₀ elided₀ last₀ i₀ log slots heads lengths left pointers columns responses banks cycle offset owner elided last i =
+    After p rows covers caps trace log₀ (stateOf (numbers cycle₀ offset₀ bottom classes owner₀ elided₀ last₀) slots₀ heads₀ lengths₀ left₀ pointers₀ columns₀ responses₀ banks₀) log (numbers cycle offset bottom classes owner elided last) (stateOf (numbers cycle offset bottom classes owner elided last) slots heads lengths left pointers columns responses banks) i
 
 abbrev μ-loop : tie.MeasureT-loop
-μ-loop p trace log₀ rows covers caps slots₀ heads₀ lengths₀ left₀ pointers₀ columns₀ responses₀ banks₀ m₀ i₀ log slots heads lengths left pointers columns responses banks m i =
+μ-loop p trace log₀ rows covers caps slots₀ heads₀ lengths₀ left₀ pointers₀ columns₀ responses₀ banks₀ bottom classes cycle₀ offset₀ owner₀ elided₀ last₀ i₀ log slots heads lengths left pointers columns responses banks cycle offset owner elided last i =
     length trace - i
 
 moment-of-requires : tie.Need-moment-of-requires Inv-loop μ-loop
@@ -109,19 +113,23 @@ loop-again c =
     let inv = at .loop .inv in
     let more = c .before .before .before .before .before .before .before .before .before .before .before .before .before .before .before .before .loop-test .taken in
     let did = call .call-at .ensures in
-    let present = stateOf (at .loop .m) (at .loop .slots) (at .loop .heads) (at .loop .lengths) (at .loop .left) (at .loop .pointers) (at .loop .columns) (at .loop .responses) (at .loop .banks) in
+    let was = c .before .before .before .before .before .before .before .before .before .before .before .before .before .before .before .before .before .before .moment-of .result in
+    let present = stateOf (numbers (at .loop .cycle) (at .loop .offset) (was .bottom) (was .classes) (at .loop .owner) (at .loop .elided) (at .loop .last)) (at .loop .slots) (at .loop .heads) (at .loop .lengths) (at .loop .left) (at .loop .pointers) (at .loop .columns) (at .loop .responses) (at .loop .banks) in
+    let after = call .call-at .result in
+    let kept : (n : ℕ) → State = λ n. stateOf (numbers (after .cycle) (after .offset) (was .bottom) n (after .owner) (after .elided) (after .last)) (call .call-at .last .1 .1 .1 .1 .1 .1 .0) (call .call-at .last .1 .1 .1 .1 .1 .1 .1 .0) (call .call-at .last .1 .1 .1 .1 .1 .1 .1 .1 .0) (call .call-at .last .1 .1 .1 .1 .1 .1 .1 .1 .1 .0) (call .call-at .last .1 .1 .1 .1 .1 .1 .1 .1 .1 .1 .0) (call .call-at .last .1 .1 .1 .1 .1 .1 .1 .1 .1 .1 .1 .0) (call .call-at .last .1 .1 .1 .1 .1 .1 .1 .1 .1 .1 .1 .1 .0) (call .call-at .last .1 .1 .1 .1 .1 .1 .1 .1 .1 .1 .1 .1 .1 .0) in
+    let state : kept (was .classes) ≡ answerTo p present (getD trace i 0) .state = ap kept (sym (did .4)) ∙ did .0 in
     record {
       so-far = omega (arith, more);
       room = inv .room;
       long = ap length (did .1) ∙ put-long (at .loop .log) (4 * i) (answerTo p present (getD trace i 0)) ∙ inv .long;
-      state = did .0 ∙ ap (λ (s : State). answerTo p s (getD trace i 0) .state) (inv .state) ∙ sym (state-more p first trace i more);
+      state = state ∙ ap (λ (s : State). answerTo p s (getD trace i 0) .state) (inv .state) ∙ sym (state-more p first trace i more);
       logged =
           did .1
           ∙ ap (λ (s : State). put (at .loop .log) (4 * i) (answerTo p s (getD trace i 0))) (inv .state)
           ∙ log-more p first trace i more (start .args .log .now) (at .loop .log) (omega (arith, more, inv .room)) (inv .logged);
-      fit = subst (λ (s : State). inRange p s ≡ true) (sym (did .0)) (answered-in-range p present (getD trace i 0) (inv .fit));
+      fit = subst (λ (s : State). inRange p s ≡ true) (sym state) (answered-in-range p present (getD trace i 0) (inv .fit));
       offset = did .2;
-      lent = record { bottom-is = did .3 ∙ inv .lent .bottom-is; rows-are = refl; covers-are = refl; caps-are = refl };
+      lent = inv .lent;
     }
 
 state-of-requires : tie.Need-state-of-requires Inv-loop μ-loop

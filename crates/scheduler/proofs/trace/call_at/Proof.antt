@@ -60,16 +60,13 @@ returns : tie.Need-returns
 returns c =
     let s = c .before .before .before .before .before .before .before .before .before .before in
     let e = late (c .before .before) in
-    (sym (ap (λ (a : Answer). a .state) e), c .before .before .write .ensures ∙ sym (ap (logged s) e), s .pre .1, refl)
+    (sym (ap (λ (a : Answer). a .state) e), c .before .before .write .ensures ∙ sym (ap (logged s) e), s .pre .1, refl, refl)
 
 tick-in-place-requires : tie.Need-tick-in-place-requires
 tick-in-place-requires c κs = let s = c .before .before .before .before .before .before .before .before .before .before .before .before .before .before in (s .pre .0, c .before .before .before .before .before .before .before .before .if1 .left, s .pre .1, s .pre .2)
 
-command-number-requires : tie.Need-command-number-requires
-command-number-requires c κs = search needs
-
 write-requires-2 : tie.Need-write-requires-2
-write-requires-2 c κs = c .before .before .before .before .before .before .before .before .before .before .before .before .before .before .before .before .before .before .pre .3
+write-requires-2 c κs = c .before .before .before .before .before .before .before .before .before .before .before .before .before .before .before .before .before .pre .3
 
 enum-known-call : tie.Need-enum-known-call
 enum-known-call c = search needs
@@ -112,11 +109,12 @@ ticks c =
 
 returns-2 : tie.Need-returns-2
 returns-2 c =
-    let s = c .before .before .before .before .before .before .before .before .before .before .before .before .before .before .before .before .before .before .before .before .before .before in
-    let t = c .before .before .before .before .before .before .before in
+    let s = c .before .before .before .before .before .before .before .before .before .before .before .before .before .before .before .before .before .before .before .before .before in
+    let t = c .before .before .before .before .before .before in
     let e = ticks t in
+    let did = t .tick-in-place .ensures in
     let shown = t .tick-in-place .result .shown in
-    (sym (ap (λ (a : Answer). a .state) e), c .before .before .before .write2 .ensures ∙ ap (λ (k : ℕ). written (s .args .log .now) (s .args .at) 0 k (shown .response) (shown .turn)) (c .before .before .before .before .command-number .ensures) ∙ sym (ap (logged s) e), t .tick-in-place .ensures .1, t .tick-in-place .ensures .2)
+    (sym (ap (λ (a : Answer). a .state) e), c .before .before .before .write2 .ensures ∙ ap (λ (k : ℕ). written (s .args .log .now) (s .args .at) 0 k (shown .response) (shown .turn)) (did .4) ∙ sym (ap (logged s) e), did .1, did .2, did .3)
 
 same-length-3 : tie.Need-same-length-3
 same-length-3 c = search needs
@@ -126,7 +124,7 @@ unfolding offerOn
 returns-3 c =
     let s = c .before .before .before .before .before .before .before .before .before .before .before .before .before in
     let e = called-offer (s .args .p) (given s) (s .args .word) _ (sym (c .before .before .before .before .before .before .before .before .before .before .before .call-of .ensures) ∙ c .before .before .before .before .before .before .before .before .before .call .given .1) ∙ ap offered (offer-is (s .args .p) (given s) (s .pre .0) _) in
-    (ap (queued (given s)) (c .before .before .before .before .offer .ensures .1) ∙ sym (ap (λ (a : Answer). a .state) e), c .before .before .write3 .ensures ∙ ap (λ (k : ℕ). written (s .args .log .now) (s .args .at) k 0 0 0) (c .before .before .before .before .offer .ensures .0) ∙ sym (ap (logged s) e), s .pre .1, refl)
+    (ap (queued (given s)) (c .before .before .before .before .offer .ensures .1) ∙ sym (ap (λ (a : Answer). a .state) e), c .before .before .write3 .ensures ∙ ap (λ (k : ℕ). written (s .args .log .now) (s .args .at) k 0 0 0) (c .before .before .before .before .offer .ensures .0) ∙ sym (ap (logged s) e), s .pre .1, refl, refl)
 
 same-length-4 : tie.Need-same-length-4
 same-length-4 c = search needs
@@ -135,7 +133,7 @@ returns-4 : tie.Need-returns-4
 returns-4 c =
     let s = c .before .before .before .before .before .before .before .before in
     let e = called-malformed (s .args .p) (given s) (s .args .word) (sym (c .before .before .before .before .before .before .call-of .ensures) ∙ c .before .before .before .before .enum-told2 .given .1) in
-    (sym (ap (λ (a : Answer). a .state) e), c .before .before .write4 .ensures ∙ sym (ap (logged s) e), s .pre .1, refl)
+    (sym (ap (λ (a : Answer). a .state) e), c .before .before .write4 .ensures ∙ sym (ap (logged s) e), s .pre .1, refl, refl)
 
 pub call-at-spec : {M : Type 1} → statement M
 call-at-spec =
@@ -147,7 +145,6 @@ call-at-spec =
     same-length
     returns
     tick-in-place-requires
-    command-number-requires
     write-requires-2
     enum-known-call
     offer-requires

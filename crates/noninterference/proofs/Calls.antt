@@ -1,27 +1,31 @@
--- Single calls in two runs: the same call keeps two states alike, and an offer of a high class in one of them does too.
+-- Single calls in two runs: the same call keeps two states alike and shows the same of its log line, and an offer of a high class in one of them keeps them alike too.
 -- Assumes nothing.
-use mathlib.Core.Path.{_≡_, sym, ap, _∙_, subst}
+use mathlib.Core.Path.{_≡_, sym, ap, ap₂, _∙_, subst}
 use mathlib.Core.Logic.{⊎-elim}
 use mathlib.Core.Bool.{Bool, true, false}
+use mathlib.Core.List.{List, [], _∷_}
 use Prim.Native.Nat.{ℕ, _≤_}
 use lib.Dec.{ltb}
 use Rattle.policy.specs.Policy.{inRange as policyInRange}
 use Rattle.policy.specs.declared.Policy.{Policy}
 use Rattle.policy.proofs.Truth.{either}
 use Rattle.policy.proofs.Laws.{policy-laws}
-use Rattle.scheduler.specs.Queue.{queuesAfter}
-use Rattle.scheduler.specs.Call.{offerOn, offer, afterTick, tick}
+use Rattle.scheduler.specs.Word.{commandNumber}
+use Rattle.scheduler.specs.Queue.{offerStatus, queuesAfter}
+use Rattle.scheduler.specs.Call.{offerOn, offer, silent, afterTick, tick}
 use Rattle.scheduler.specs.History.{Held}
 use Rattle.scheduler.specs.declared.Request.{Request}
 use Rattle.scheduler.specs.declared.State.{State}
 use Rattle.scheduler.specs.declared.Offered.{Offered}
 use Rattle.scheduler.specs.declared.Ticked.{Ticked}
+use Rattle.scheduler.specs.declared.trace.Call.the-variants.{Tick}
 use Rattle.scheduler.proofs.Answers.{offer-is, tick-is, tick-late}
 use Rattle.scheduler.proofs.Whole.{whole}
+use Rattle.extract.specs.Extract.{hideWord, hideTurn, lineSeen}
 use Rattle.noninterference.specs.Low.{Downward, QueuesAgree}
 use Rattle.noninterference.specs.Alike.{Alike}
-use Rattle.noninterference.proofs.Offers.{offer-agrees, offer-unseen}
-use Rattle.noninterference.proofs.Ticks.{tick-alike}
+use Rattle.noninterference.proofs.Offers.{same-status, offer-agrees, offer-unseen}
+use Rattle.noninterference.proofs.Ticks.{tick-alike, tick-command, tick-response, tick-turn}
 
 module _ (p : Policy) (given : policyInRange p ≡ true) (low : ℕ → Bool) (closed : Downward p low) where
   few : p .classes ≤ 16
@@ -80,4 +84,35 @@ module _ (p : Policy) (given : policyInRange p ≡ true) (low : ℕ → Bool) (c
         (λ e.
         subst (λ (x : Ticked). Alike p low (x .state) (tick p r .state)) (sym (tick-late p s (h .ranges) e))
         (subst (λ (x : Ticked). Alike p low s (x .state)) (sym (tick-late p r (g .ranges) (sym same-limit ∙ e))) alike))
+        (either (ltb (s .cycle) 16777215))
+
+    -- ---- what is seen of their log lines
+
+    pub offer-line : (o : Request) → low (o .class) ≡ true → offer p s o .status ≡ offer p r o .status
+    unfolding offerOn
+    offer-line o i =
+        ap (λ (x : Offered). x .status) (offer-is p s (h .ranges) o)
+        ∙ ap (λ (n : ℕ). offerStatus n (s .queues .lengths) o) (sym count-s)
+        ∙ same-status (p .classes) few low (s .queues) (r .queues) o (alike .queues) i
+        ∙ ap (λ (n : ℕ). offerStatus n (r .queues .lengths) o) count-r
+        ∙ sym (ap (λ (x : Offered). x .status) (offer-is p r (g .ranges) o))
+
+    -- a tick's line as it is seen
+    abbrev line : Ticked → List ℕ
+    line x = lineSeen low Tick (x .status) (commandNumber (x .shown .wires)) (x .shown .response) (x .shown .turn)
+
+    pub tick-line : line (tick p s) ≡ line (tick p r)
+    unfolding lineSeen afterTick silent
+    tick-line =
+        let same-limit : ltb (s .cycle) 16777215 ≡ ltb (r .cycle) 16777215 = ap (λ (k : ℕ). ltb k 16777215) (alike .cycles) in
+        ⊎-elim
+        (λ e.
+        let command = tick-command p given low closed s r h g alike in
+        let response = tick-response p given low closed s r h g alike in
+        let turn = tick-turn p given low closed s r h g alike in
+        ap line (tick-is p s (h .ranges) e)
+        ∙ ap₂ (λ (c a : ℕ). 0 ∷ c ∷ a ∷ hideTurn low (afterTick p s .shown .turn) ∷ []) command response
+        ∙ ap (λ (k : ℕ). 0 ∷ hideWord low (commandNumber (afterTick p r .shown .wires)) ∷ hideWord low (afterTick p r .shown .response) ∷ k ∷ []) turn
+        ∙ sym (ap line (tick-is p r (g .ranges) (sym same-limit ∙ e))))
+        (λ e. ap line (tick-late p s (h .ranges) e) ∙ sym (ap line (tick-late p r (g .ranges) (sym same-limit ∙ e))))
         (either (ltb (s .cycle) 16777215))

@@ -17,34 +17,35 @@ use Rattle.policy.proofs.Truth.{either, or-left, or-right, or-cases}
 use Rattle.scheduler.specs.Word.{kindOf, bankOf}
 use Rattle.scheduler.specs.Wire.{gapMet, gapsMetBy, gapsMet}
 use Rattle.scheduler.specs.declared.Flight.{Flight}
-use Rattle.noninterference.specs.Low.{hidden, PendingAgree, LastAgree, LastsAgree}
+use Rattle.extract.specs.Extract.{hideWord}
+use Rattle.noninterference.specs.Low.{PendingAgree, LastAgree, LastsAgree}
 
 -- ---- pending words
 
 -- a store of words that look alike, in both
-pub stored-both : (low : ℕ → Bool) (xs ys : List ℕ) (k x y : ℕ) → k < length xs → k < length ys → hidden low x ≡ hidden low y → PendingAgree low xs ys → PendingAgree low (set xs k x) (set ys k y)
+pub stored-both : (low : ℕ → Bool) (xs ys : List ℕ) (k x y : ℕ) → k < length xs → k < length ys → hideWord low x ≡ hideWord low y → PendingAgree low xs ys → PendingAgree low (set xs k x) (set ys k y)
 stored-both low xs ys k x y l m e h i =
     ⊎-elim
     (λ t.
     let at = eqb-true i k t in
-    ap (λ (j : ℕ). hidden low (getD (set xs k x) j 0)) at
-    ∙ ap (hidden low) (getD-set-same xs k x 0 l)
+    ap (λ (j : ℕ). hideWord low (getD (set xs k x) j 0)) at
+    ∙ ap (hideWord low) (getD-set-same xs k x 0 l)
     ∙ e
-    ∙ sym (ap (λ (j : ℕ). hidden low (getD (set ys k y) j 0)) at ∙ ap (hidden low) (getD-set-same ys k y 0 m)))
-    (λ f. ap (hidden low) (getD-set-other xs k i x 0 (eqb-false i k f)) ∙ h i ∙ sym (ap (hidden low) (getD-set-other ys k i y 0 (eqb-false i k f))))
+    ∙ sym (ap (λ (j : ℕ). hideWord low (getD (set ys k y) j 0)) at ∙ ap (hideWord low) (getD-set-same ys k y 0 m)))
+    (λ f. ap (hideWord low) (getD-set-other xs k i x 0 (eqb-false i k f)) ∙ h i ∙ sym (ap (hideWord low) (getD-set-other ys k i y 0 (eqb-false i k f))))
     (either (eqb i k))
 
 -- a store in one alone, of a word that looks like the one that stood there
-pub stored-unseen : (low : ℕ → Bool) (xs : List ℕ) (k x : ℕ) → k < length xs → hidden low x ≡ hidden low (getD xs k 0) → PendingAgree low (set xs k x) xs
+pub stored-unseen : (low : ℕ → Bool) (xs : List ℕ) (k x : ℕ) → k < length xs → hideWord low x ≡ hideWord low (getD xs k 0) → PendingAgree low (set xs k x) xs
 stored-unseen low xs k x l e i =
     ⊎-elim
     (λ t.
     let at = eqb-true i k t in
-    ap (λ (j : ℕ). hidden low (getD (set xs k x) j 0)) at
-    ∙ ap (hidden low) (getD-set-same xs k x 0 l)
+    ap (λ (j : ℕ). hideWord low (getD (set xs k x) j 0)) at
+    ∙ ap (hideWord low) (getD-set-same xs k x 0 l)
     ∙ e
-    ∙ sym (ap (λ (j : ℕ). hidden low (getD xs j 0)) at))
-    (λ f. ap (hidden low) (getD-set-other xs k i x 0 (eqb-false i k f)))
+    ∙ sym (ap (λ (j : ℕ). hideWord low (getD xs j 0)) at))
+    (λ f. ap (hideWord low) (getD-set-other xs k i x 0 (eqb-false i k f)))
     (either (eqb i k))
 
 -- ---- gaps

@@ -18,3 +18,5 @@ pub mod Ticks
 pub mod Calls
 -- of two lists of calls
 pub mod Lists
+-- demand 3
+pub mod Claims

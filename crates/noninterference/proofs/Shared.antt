@@ -28,7 +28,8 @@ use Rattle.scheduler.proofs.Waiting.{dequeue-first, dequeue-beside}
 use Rattle.scheduler.proofs.Pending.{inside}
 use Rattle.scheduler.proofs.Whole.{QueuesRange, FlightRange}
 use Rattle.scheduler.proofs.Steady.{gap-later}
-use Rattle.noninterference.specs.Low.{hidden, QueuesAgree, PendingAgree, LastAgree, LastsAgree}
+use Rattle.extract.specs.Extract.{hideWord}
+use Rattle.noninterference.specs.Low.{QueuesAgree, PendingAgree, LastAgree, LastsAgree}
 use Rattle.noninterference.proofs.Offers.{same-length}
 use Rattle.noninterference.proofs.Flights.{stored-both, same-gaps}
 
@@ -132,8 +133,8 @@ module _ (low : ℕ → Bool) (n : ℕ) (timing : Timing) (t owner : ℕ) (elide
         record {
           wires = ap (λ (x : ℕ). Activate (requestOf x)) same;
           queues = same-rest some;
-          columns = stored-both low (f .columns) (g .columns) ((t + timing .column) % 32) w v (inside (f .columns) (fr .columns-long) (t + timing .column)) (inside (g .columns) (gr .columns-long) (t + timing .column)) (ap (hidden low) same) columns;
-          responses = stored-both low (f .responses) (g .responses) ((t + timing .response) % 32) w v (inside (f .responses) (fr .responses-long) (t + timing .response)) (inside (g .responses) (gr .responses-long) (t + timing .response)) (ap (hidden low) same) responses;
+          columns = stored-both low (f .columns) (g .columns) ((t + timing .column) % 32) w v (inside (f .columns) (fr .columns-long) (t + timing .column)) (inside (g .columns) (gr .columns-long) (t + timing .column)) (ap (hideWord low) same) columns;
+          responses = stored-both low (f .responses) (g .responses) ((t + timing .response) % 32) w v (inside (f .responses) (fr .responses-long) (t + timing .response)) (inside (g .responses) (gr .responses-long) (t + timing .response)) (ap (hideWord low) same) responses;
           lasts =
               record {
                 of-all = inl (ap (λ (x : ℕ). activateAt t (kindOf x)) same);

@@ -2,23 +2,25 @@
 -- Assumes nothing.
 use mathlib.Core.Path.{_≡_, refl, sym, ap, ap₂, _∙_, subst}
 use mathlib.Core.Logic.{⊎-elim}
-use mathlib.Core.Bool.{Bool, true, false}
-use Prim.Native.Nat.{ℕ, _+_, _%_, _<_}
-use native.Mathlib.Nat.{lt-of-lt-of-le}
+use mathlib.Core.Bool.{Bool, true, false, cond, not, _&&_}
+use Prim.Native.Nat.{ℕ, _+_, _-_, _%_, _<_}
+use native.Mathlib.Nat.{lt-of-lt-of-le, not-suc-le-zero}
 use native.Mathlib.Omega.{arith}
-use lib.Dec.{lit<}
+use borrow.Author.Tests.{ne-eqb}
+use lib.Dec.{eqb, lit<}
 use lib.ListN.{length, length-set}
 use Rattle.policy.specs.Policy.{inRange as policyInRange}
 use Rattle.policy.specs.declared.Timing.{Timing}
 use Rattle.policy.specs.declared.Policy.{Policy}
-use Rattle.policy.proofs.Truth.{not-both}
+use Rattle.policy.proofs.Truth.{not-both, and-fails-right}
 use Rattle.policy.proofs.Laws.{policy-laws}
-use Rattle.scheduler.specs.Word.{classOf}
+use Rattle.scheduler.specs.Word.{classOf, commandNumber}
 use Rattle.scheduler.specs.Queue.{waitingAt}
 use Rattle.scheduler.specs.Wire.{dueAt, sentAt, activated}
-use Rattle.scheduler.specs.Step.{turnsAt, Driven, drive, answered}
-use Rattle.scheduler.specs.Call.{afterTick}
+use Rattle.scheduler.specs.Step.{turnStarts, turnsAt, turnWord, Driven, drive, answered}
+use Rattle.scheduler.specs.Call.{turnShown, afterTick}
 use Rattle.scheduler.specs.History.{Held}
+use Rattle.scheduler.specs.declared.Wires.{Wires}
 use Rattle.scheduler.specs.declared.Queues.{Queues}
 use Rattle.scheduler.specs.declared.Turns.{Turns}
 use Rattle.scheduler.specs.declared.Flight.{Flight}
@@ -28,11 +30,12 @@ use Rattle.scheduler.proofs.Charged.{turns-kept}
 use Rattle.scheduler.proofs.Pending.{inside}
 use Rattle.scheduler.proofs.Whole.{FlightRange, Whole, whole}
 use Rattle.scheduler.proofs.Steady.{Midway, midway}
-use Rattle.noninterference.specs.Low.{Downward, hidden, QueuesAgree, PendingAgree, LastsAgree}
+use Rattle.extract.specs.Extract.{hideWord, ownerSeen, hideTurn}
+use Rattle.noninterference.specs.Low.{Downward, QueuesAgree, PendingAgree, LastsAgree}
 use Rattle.noninterference.specs.Alike.{Alike}
 use Rattle.noninterference.proofs.Flights.{stored-both}
 use Rattle.noninterference.proofs.Starts.{Begun, begun}
-use Rattle.noninterference.proofs.Quiet.{hidden-none, hidden-low, quiet-queues, quiet-columns, quiet-responses}
+use Rattle.noninterference.proofs.Quiet.{hidden-none, hidden-low, columnShown, quiet-queues, quiet-columns, quiet-responses, quiet-command}
 use Rattle.noninterference.proofs.Shared.{Shared, shared}
 
 -- the second step keeps as many places for responses
@@ -40,6 +43,26 @@ still-long : (timing : Timing) (t owner : ℕ) (elided : Bool) (q : Queues) (f :
 unfolding activated
 still-long timing t owner elided q f long =
     outcome timing t owner elided q f (λ d. length (d .flight .responses) ≡ 32) (λ due. long) (λ due e. length-set (f .responses) ((t + timing .response) % 32) (waitingAt q owner 0) ∙ long) (λ due stays. long)
+
+-- the owner that a turn number names
+named-owner : (owner : ℕ) (elided : Bool) → owner < 16 → (1 + owner + cond elided 256 0) % 256 - 1 ≡ owner
+named-owner owner true small = omega (arith, small)
+named-owner owner false small = omega (arith, small)
+
+-- the turn number of a high owner is hidden
+high-turn : (low : ℕ → Bool) (owner : ℕ) (elided : Bool) → owner < 16 → low owner ≡ false → hideTurn low (turnWord owner elided) ≡ 512
+unfolding hideTurn ownerSeen turnWord
+high-turn low owner elided small high =
+    let named : (1 + owner + cond elided 256 0) % 256 - 1 ≡ owner = named-owner owner elided small in
+    let w = 1 + owner + cond elided 256 0 in
+    ap (λ (b : Bool). cond b 0 (cond (not (eqb (w % 256) 0) && low (w % 256 - 1)) w 512)) (ne-eqb w 0 (λ z. not-suc-le-zero {n = 0} (omega (arith, z))))
+    ∙ ap (λ (b : Bool). cond b w 512) (and-fails-right (not (eqb (w % 256) 0)) (low (w % 256 - 1)) (ap low named ∙ high))
+
+-- and 0 where no turn starts
+unseen-turn : (low : ℕ → Bool) (starts : Bool) (owner : ℕ) (elided : Bool) → owner < 16 → low owner ≡ false → hideTurn low (cond starts (turnWord owner elided) 0) ≡ cond starts 512 0
+unfolding hideTurn
+unseen-turn low true owner elided small high = high-turn low owner elided small high
+unseen-turn low false owner elided small high = refl
 
 module _ (p : Policy) (given : policyInRange p ≡ true) (low : ℕ → Bool) (closed : Downward p low) where
   -- what the second step leaves, at a cycle told apart from the state's
@@ -57,12 +80,12 @@ module _ (p : Policy) (given : policyInRange p ≡ true) (low : ℕ → Bool) (c
     lasts : low (turnsOf t s .owner) ≡ true → LastsAgree (p .timing .dead) (t + 1) (d .flight) (e .flight)
 
   -- a due word, where the owner is low, is seen
-  seen : (t : ℕ) (turns : Turns) (s : State) → Midway p given t turns (s .flight) → low (turns .owner) ≡ true → hidden low (dueAt (s .flight .columns) t) ≡ dueAt (s .flight .columns) t
+  seen : (t : ℕ) (turns : Turns) (s : State) → Midway p given t turns (s .flight) → low (turns .owner) ≡ true → hideWord low (dueAt (s .flight .columns) t) ≡ dueAt (s .flight .columns) t
   seen t turns s m i =
       let now : t + 0 ≡ t = omega arith in
-      subst (λ (k : ℕ). hidden low (dueAt (s .flight .columns) k) ≡ dueAt (s .flight .columns) k) now
+      subst (λ (k : ℕ). hideWord low (dueAt (s .flight .columns) k) ≡ dueAt (s .flight .columns) k) now
       (⊎-elim
-      (λ z. ap (hidden low) z ∙ hidden-none low ∙ sym z)
+      (λ z. ap (hideWord low) z ∙ hidden-none low ∙ sym z)
       (λ f. hidden-low low (dueAt (s .flight .columns) (t + 0)) (closed (classOf (dueAt (s .flight .columns) (t + 0))) (turns .owner) f i))
       (m .flowing .column 0 (lit< tt)))
 
@@ -166,6 +189,36 @@ module _ (p : Policy) (given : policyInRange p ≡ true) (low : ℕ → Bool) (c
     tick-alike = subst (λ (k : ℕ). Alike p low (later t s) (later k r)) (alike .cycles) later-alike
 
     -- and what it shows of a response looks the same
-    pub tick-response : hidden low (afterTick p s .shown .response) ≡ hidden low (afterTick p r .shown .response)
+    pub tick-response : hideWord low (afterTick p s .shown .response) ≡ hideWord low (afterTick p r .shown .response)
     unfolding afterTick dueAt
-    tick-response = subst (λ (k : ℕ). hidden low (dueAt (drivenOf t s .flight .responses) t) ≡ hidden low (dueAt (drivenOf k r .flight .responses) k)) (alike .cycles) (driving .responses (t % 32))
+    tick-response = subst (λ (k : ℕ). hideWord low (dueAt (drivenOf t s .flight .responses) t) ≡ hideWord low (dueAt (drivenOf k r .flight .responses) k)) (alike .cycles) (driving .responses (t % 32))
+
+    -- of a command
+    commands : hideWord low (commandNumber (drivenOf t s .wires)) ≡ hideWord low (commandNumber (drivenOf t r .wires))
+    unfolding dueAt
+    commands =
+        let timed = policy-laws p given .timed in
+        ⊎-elim
+        (λ both. ap (λ (w : Wires). hideWord low (commandNumber w)) (low-drive (both .0) (both .1) .wires))
+        (λ both.
+        quiet-command low (p .classes) (p .timing) t (turnsOf t s .owner) (turnsOf t s .elided) (s .queues) (s .flight) timed small-s (ws .queues-fit) (ws .flight-fit) (both .0)
+        ∙ ap columnShown (alike .columns (t % 32))
+        ∙ sym (quiet-command low (p .classes) (p .timing) t (turnsOf t r .owner) (turnsOf t r .elided) (r .queues) (r .flight) timed small-r (wr .queues-fit) flight-r (both .1)))
+        (start .turns .owners)
+
+    pub tick-command : hideWord low (commandNumber (afterTick p s .shown .wires)) ≡ hideWord low (commandNumber (afterTick p r .shown .wires))
+    unfolding afterTick
+    tick-command = subst (λ (k : ℕ). hideWord low (commandNumber (drivenOf t s .wires)) ≡ hideWord low (commandNumber (drivenOf k r .wires))) (alike .cycles) commands
+
+    -- and of the turn
+    turns-shown : hideTurn low (turnShown p t (turnsOf t s)) ≡ hideTurn low (turnShown p t (turnsOf t r))
+    unfolding turnShown
+    turns-shown =
+        ⊎-elim
+        (λ both. ap₂ (λ (o : ℕ) (b : Bool). hideTurn low (cond (turnStarts p t) (turnWord o b) 0)) (both .0) (start .turns .elisions (both .1)))
+        (λ both. unseen-turn low (turnStarts p t) (turnsOf t s .owner) (turnsOf t s .elided) small-s (both .0) ∙ sym (unseen-turn low (turnStarts p t) (turnsOf t r .owner) (turnsOf t r .elided) small-r (both .1)))
+        (start .turns .owners)
+
+    pub tick-turn : hideTurn low (afterTick p s .shown .turn) ≡ hideTurn low (afterTick p r .shown .turn)
+    unfolding afterTick
+    tick-turn = subst (λ (k : ℕ). hideTurn low (turnShown p t (turnsOf t s)) ≡ hideTurn low (turnShown p k (turnsOf k r))) (alike .cycles) turns-shown

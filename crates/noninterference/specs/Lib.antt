@@ -1,8 +1,8 @@
--- The definitions by which two runs are compared, in reading order.
+-- Demand 3, and the definitions that its proof compares two runs by.
 
--- the classes that are looked at, and two states' turns seen by them
+-- "Two lists side by side": the claim, which stands alone
+pub mod Claim
+-- for the proof: the classes that are looked at, and what two states' parts have in common for them
 pub mod Low
--- two states that the low classes cannot tell apart
+-- for the proof: two states that the low classes cannot tell apart
 pub mod Alike
--- what is struck out of a list, and what holds of the states after two lists
-pub mod Purge

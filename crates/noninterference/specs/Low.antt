@@ -1,18 +1,18 @@
 -- The classes that are looked at, called low: those that may flow to L, or any set that holds, with a class, all that may flow to it. The others are high.
 use mathlib.Core.Path.{_≡_}
 use mathlib.Core.Logic.{_⊎_}
-use mathlib.Core.Bool.{Bool, true, false, cond}
+use mathlib.Core.Bool.{Bool, true, false}
 use mathlib.Core.List.{List}
 use Prim.Native.Nat.{ℕ, _<_}
 use lib.ListN.{getD}
 use Rattle.policy.specs.Policy.{flows}
 use Rattle.policy.specs.declared.Policy.{Policy}
-use Rattle.scheduler.specs.Word.{classOf}
 use Rattle.scheduler.specs.Queue.{waiting}
 use Rattle.scheduler.specs.Wire.{gapMet}
 use Rattle.scheduler.specs.declared.Flight.{Flight}
 use Rattle.scheduler.specs.declared.Queues.{Queues}
 use Rattle.scheduler.specs.declared.Turns.{Turns}
+use Rattle.extract.specs.Extract.{hideWord}
 
 -- closed downward: what may flow to a low class is low
 abbrev pub Downward : Policy → (ℕ → Bool) → Type 0
@@ -37,13 +37,9 @@ pub record TurnsAgree (low : ℕ → Bool) (t u : Turns) : Type 0 where
 abbrev pub QueuesAgree : (ℕ → Bool) → Queues → Queues → Type 0
 QueuesAgree low q r = (c : ℕ) → low c ≡ true → waiting q c ≡ waiting r c
 
--- a word as the low classes see it: 0 where it is of a high class
-unfoldable pub hidden : (ℕ → Bool) → ℕ → ℕ
-hidden low w = cond (low (classOf w)) w 0
-
--- two lists of pending words agree, due cycle by due cycle, once high ones are hidden
+-- two lists of pending words agree, due cycle by due cycle, once high ones are hideWord
 abbrev pub PendingAgree : (ℕ → Bool) → List ℕ → List ℕ → Type 0
-PendingAgree low xs ys = (i : ℕ) → hidden low (getD xs i 0) ≡ hidden low (getD ys i 0)
+PendingAgree low xs ys = (i : ℕ) → hideWord low (getD xs i 0) ≡ hideWord low (getD ys i 0)
 
 -- two last activates: the same, kind included, or both so long ago, or never, that every gap is met
 abbrev pub LastAgree : ℕ → ℕ → ℕ → ℕ → Type 0

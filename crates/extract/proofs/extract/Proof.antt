@@ -1,0 +1,133 @@
+-- `extract::extract` meets its contract: each return is what the definition gives where its tests lead there; what is written last is what the class may see.
+-- Assumes nothing.
+use mathlib.Core.Path.{_≡_, refl, sym, ap, _∙_}
+use mathlib.Core.Bool.{true}
+use mathlib.Core.List.{List, _++_}
+use Prim.Native.Nat.{ℕ, _*_}
+use native.Mathlib.Omega.{arith}
+use borrow.Author.Tests.{lt-ltb, le-ltb, eqb-true}
+use borrow.Author.Needs.{needs}
+use lib.ListN.{length, drop}
+use Rattle.policy.specs.Mask.{member}
+use Rattle.policy.specs.Policy.{inRange, isClass}
+use Rattle.policy.proofs.Truth.{not-true, not-not}
+use Rattle.extract.specs.Extract.{refusal}
+use Rattle.extract.proofs.Grown.{kept-le}
+use Rattle.extract.proofs.Answers.{four-times, refused-13, refused-9, refused-17, refused-16, not-refused, refused, taken, written, kept-is, count-is}
+use Rattle.extract.proofs.extract.Statement.{statement}
+use Rattle.extract.proofs.extract.Tie as tie
+
+-- 13 does not refuse it
+ranged : (c : tie.Else1) → inRange (c .before .before .before .before .before .args .p) ≡ true
+ranged c = sym (c .before .in-range .ensures) ∙ not-not _ (c .if1 .left)
+
+-- nor 9
+classed : (c : tie.Else2) → isClass (c .before .before .before .before .before .before .before .args .p) (c .before .before .before .before .before .before .before .args .class) ≡ true
+unfolding isClass
+classed c =
+    let a = c .before .before .before .before .before .before .before .args in
+    lt-ltb (a .class) (a .p .classes) (c .if2 .left)
+
+-- nor 17
+fourfold : (c : tie.Else3)
+    → length (c .before .before .before .before .before .before .before .before .args .log .now) ≡ 4 * length (c .before .before .before .before .before .before .before .before .args .trace .now)
+fourfold c =
+    let a = c .before .before .before .before .before .before .before .before .args in
+    eqb-true (length (a .log .now)) (4 * length (a .trace .now)) (not-not _ (sym (four-times (length (a .log .now)) (length (a .trace .now))) ∙ c .if3 .left))
+
+in-range-requires : tie.Need-in-range-requires
+in-range-requires c κs = search needs
+
+returns : tie.Need-returns
+returns c =
+    let a = c .before .before .before .before .before .args in
+    refused (a .p) (a .class) (a .trace .now) (a .log .now) (a .out .now) 13 refl
+    (refused-13 (a .p) (a .class) (a .trace .now) (a .log .now) (a .out .now) (sym (c .before .in-range .ensures) ∙ not-true _ (c .if1 .taken)))
+
+returns-2 : tie.Need-returns-2
+unfolding isClass
+returns-2 c =
+    let fit = c .before .before in
+    let a = fit .before .before .before .before .before .args in
+    refused (a .p) (a .class) (a .trace .now) (a .log .now) (a .out .now) 9 refl
+    (refused-9 (a .p) (a .class) (a .trace .now) (a .log .now) (a .out .now) (ranged fit) (le-ltb (a .class) (a .p .classes) (c .if2 .taken)))
+
+returns-3 : tie.Need-returns-3
+returns-3 c =
+    let small = c .before in
+    let fit = small .before .before in
+    let a = fit .before .before .before .before .before .args in
+    refused (a .p) (a .class) (a .trace .now) (a .log .now) (a .out .now) 17 refl
+    (refused-17 (a .p) (a .class) (a .trace .now) (a .log .now) (a .out .now) (ranged fit) (classed small)
+    (not-true _ (sym (four-times (length (a .log .now)) (length (a .trace .now))) ∙ c .if3 .taken)))
+
+seen-by-requires : tie.Need-seen-by-requires
+seen-by-requires c κs = search needs
+
+kept-requires : tie.Need-kept-requires
+kept-requires c κs = search needs
+
+mul-count : tie.Need-mul-count
+mul-count c =
+    let long = c .before .before in
+    let a = long .before .before .before .before .before .before .before .before .args in
+    omega (arith, c .kept .ensures, kept-le (member (c .before .seen-by .result)) (a .trace .now), fourfold long)
+
+returns-4 : tie.Need-returns-4
+returns-4 c =
+    let long = c .before .before .before in
+    let small = long .before in
+    let fit = small .before .before in
+    let a = fit .before .before .before .before .before .args in
+    let count = count-is (a .p) (ranged fit) (a .class) (c .before .before .seen-by .ensures) (a .trace .now) (a .log .now) (c .before .kept .ensures) in
+    refused (a .p) (a .class) (a .trace .now) (a .log .now) (a .out .now) 16 refl
+    (refused-16 (a .p) (a .class) (a .trace .now) (a .log .now) (a .out .now) (ranged fit) (classed small) (fourfold long) (omega (arith, count, c .if4 .taken)))
+
+write-requires : tie.Need-write-requires
+write-requires c κs =
+    let kept = c .before .before in
+    let long = kept .before .before in
+    let fit = long .before .before .before in
+    let a = fit .before .before .before .before .before .args in
+    let is = kept-is (a .p) (ranged fit) (a .class) (kept .before .seen-by .ensures) (a .trace .now) (a .log .now) in
+    let count = count-is (a .p) (ranged fit) (a .class) (kept .before .seen-by .ensures) (a .trace .now) (a .log .now) (kept .kept .ensures) in
+    (fourfold long, omega (arith, ap length is, count, c .before .if4 .left))
+
+same-length : tie.Need-same-length
+same-length c = search needs
+
+returns-5 : tie.Need-returns-5
+returns-5 c =
+    let wrote = c .before .before in
+    let room = wrote .before .before in
+    let kept = room .before in
+    let long = kept .before .before in
+    let small = long .before in
+    let fit = small .before .before in
+    let a = fit .before .before .before .before .before .args in
+    let is = kept-is (a .p) (ranged fit) (a .class) (kept .before .seen-by .ensures) (a .trace .now) (a .log .now) in
+    let count = count-is (a .p) (ranged fit) (a .class) (kept .before .seen-by .ensures) (a .trace .now) (a .log .now) (kept .kept .ensures) in
+    let none : refusal (a .p) (a .class) (a .trace .now) (a .log .now) (a .out .now) ≡ 0 =
+    not-refused (a .p) (a .class) (a .trace .now) (a .log .now) (a .out .now) (ranged fit) (classed small) (fourfold long) (omega (arith, count, room .if4 .left))
+    in (
+      taken (a .p) (a .class) (a .trace .now) (a .log .now) (a .out .now) none count,
+      wrote .write .ensures
+          ∙ ap (λ (l : List ℕ). l ++ drop (length l) (a .out .now)) is
+          ∙ written (a .p) (a .class) (a .trace .now) (a .log .now) (a .out .now) none,
+    )
+
+pub extract-spec : {M : Type 1} → statement M
+extract-spec =
+    tie.close
+    (tie.spec
+    in-range-requires
+    returns
+    returns-2
+    returns-3
+    seen-by-requires
+    kept-requires
+    mul-count
+    returns-4
+    write-requires
+    same-length
+    returns-5)

@@ -1,0 +1,68 @@
+-- "The extract for class L": what is left of a log once what may not be seen is dropped or hidden, and the answer of the call.
+use mathlib.Core.Bool.{Bool, true, false, cond, not, _&&_}
+use mathlib.Core.List.{List, [], _∷_, _++_}
+use Prim.Native.Nat.{ℕ, _+_, _-_, _*_, _%_}
+use lib.Dec.{eqb, leb}
+use lib.ListN.{length, getD, drop}
+use Rattle.policy.specs.Policy.{inRange, isClass}
+use Rattle.policy.specs.declared.Policy.{Policy}
+use Rattle.scheduler.specs.Word.{classOf}
+use Rattle.scheduler.specs.Trace.{callOf}
+use Rattle.scheduler.specs.declared.trace.Call.{Call}
+use Rattle.scheduler.specs.declared.trace.Call.the-variants.{Tick, Offer, Malformed}
+use Rattle.extract.specs.Seen.{seenBy, callStays}
+use Rattle.extract.specs.declared.Extracted.{Extracted}
+
+-- ---- one call's four numbers
+
+-- "a command or answer of another such class becomes 0": its class stands in bits 24 to 28
+unfoldable pub hideWord : (ℕ → Bool) → ℕ → ℕ
+hideWord seen w = cond (seen (classOf w)) w 0
+
+-- "The owner is the turn number's low 8 bits less 1": where those are 0 they name no class
+unfoldable pub ownerSeen : (ℕ → Bool) → ℕ → Bool
+ownerSeen seen t = not (eqb (t % 256) 0) && seen (t % 256 - 1)
+
+-- "such an owner's turn number becomes 512; a turn number of 0 stays 0 .. a nonzero turn number that so names no class below n becomes 512 too"
+unfoldable pub hideTurn : (ℕ → Bool) → ℕ → ℕ
+hideTurn seen t = cond (eqb t 0) 0 (cond (ownerSeen seen t) t 512)
+
+-- what is left of a call's status, command, answer and turn: nothing of a call that does not stay; the numbers of an offer as they are; "On ticks" some are hidden
+unfoldable pub lineSeen : (ℕ → Bool) → Call → ℕ → ℕ → ℕ → ℕ → List ℕ
+lineSeen seen Tick s c a t = s ∷ hideWord seen c ∷ hideWord seen a ∷ hideTurn seen t ∷ []
+lineSeen seen (Offer r) s c a t = elim (callStays seen (Offer r)) [ true ↦ s ∷ c ∷ a ∷ t ∷ [] | false ↦ [] ]
+lineSeen seen Malformed s c a t = []
+
+-- ---- a log
+
+-- what is left of a trace number whose four log numbers stand from `from` on
+unfoldable pub lineAt : (ℕ → Bool) → ℕ → List ℕ → ℕ → List ℕ
+lineAt seen w log from = lineSeen seen (callOf w) (getD log from 0) (getD log (from + 1) 0) (getD log (from + 2) 0) (getD log (from + 3) 0)
+
+-- "Each trace number gives four log numbers": trace number by trace number
+unfoldable pub extractOf : (ℕ → Bool) → List ℕ → List ℕ → List ℕ
+extractOf seen [] log = []
+extractOf seen (w ∷ ws) log = lineAt seen w log 0 ++ extractOf seen ws (drop 4 log)
+
+-- ---- the call
+
+-- what the extract for class l holds
+unfoldable pub keptFor : Policy → ℕ → List ℕ → List ℕ → List ℕ
+keptFor p l trace log = extractOf (seenBy p l) trace log
+
+-- "extracts 13, 9, 17, 16": a policy out of range; "class not below n"; "log to extract not 4 times the trace"; "extract shorter than what is kept". 0 where none refuses it.
+unfoldable pub refusal : Policy → ℕ → List ℕ → List ℕ → List ℕ → ℕ
+refusal p l trace log out =
+    cond (inRange p) (cond (isClass p l) (cond (eqb (length log) (4 * length trace)) (cond (leb (length (keptFor p l trace log)) (length out)) 0 16) 17) 9) 13
+
+-- "The call hands back how many numbers it wrote"; "a refused extract hands back a count of 0"
+unfoldable pub extract : Policy → ℕ → List ℕ → List ℕ → List ℕ → Extracted
+extract p l trace log out =
+    record {
+      status = refusal p l trace log out;
+      count = cond (eqb (refusal p l trace log out) 0) (length (keptFor p l trace log)) 0;
+    }
+
+-- the numbers of `out` after the call: a refused one "writes nothing"; "Numbers past the written part stay"
+unfoldable pub outAfter : Policy → ℕ → List ℕ → List ℕ → List ℕ → List ℕ
+outAfter p l trace log out = cond (eqb (refusal p l trace log out) 0) (keptFor p l trace log ++ drop (length (keptFor p l trace log)) out) out

@@ -1,4 +1,4 @@
--- A run from a file: the file is refused, or taken. Each side of the definitions, by the reading's number.
+-- A run and an extract by a file: the file is refused, or taken. Each side of the definitions, by the reading's number.
 -- Assumes nothing.
 use mathlib.Core.Path.{_≡_, ap}
 use mathlib.Core.Bool.{Bool, cond}
@@ -9,7 +9,9 @@ use Rattle.policy.specs.File.{readFile}
 use Rattle.policy.specs.declared.Policy.{Policy}
 use Rattle.scheduler.specs.Call.{fresh}
 use Rattle.scheduler.specs.Run.{run, logAfter}
+use Rattle.extract.specs.Extract.{extract, outAfter}
 use Rattle.capi.specs.Runs.{runStatus, runLog}
+use Rattle.capi.specs.Extracts.{extractStatus, extractCount, extractOut}
 
 module _ (file trace log : List ℕ) where
   abbrev pub held : Policy
@@ -29,3 +31,22 @@ module _ (file trace log : List ℕ) where
   pub taken : readFile file .status ≡ 0 → (runStatus file trace log ≡ run held (fresh held .state) trace log .status) × (runLog file trace log ≡ logAfter held (fresh held .state) trace log)
   unfolding runStatus runLog
   taken none = (ap status (eq-eqb _ 0 none), ap logged (eq-eqb _ 0 none))
+
+module _ (file : List ℕ) (l : ℕ) (trace log out : List ℕ) where
+  -- the status, the count and the numbers of an extract, by whether the file is taken
+  abbrev status-seen : Bool → ℕ
+  status-seen b = cond b (extract (readFile file .policy) l trace log out .status) (readFile file .status)
+
+  abbrev count-seen : Bool → ℕ
+  count-seen b = cond b (extract (readFile file .policy) l trace log out .count) 0
+
+  abbrev out-seen : Bool → List ℕ
+  out-seen b = cond b (outAfter (readFile file .policy) l trace log out) out
+
+  pub refused-extract : (readFile file .status ≡ 0 → ⊥) → (extractStatus file l trace log out ≡ readFile file .status) × (extractCount file l trace log out ≡ 0) × (extractOut file l trace log out ≡ out)
+  unfolding extractStatus extractCount extractOut
+  refused-extract some = let e = ne-eqb _ 0 some in (ap status-seen e, ap count-seen e, ap out-seen e)
+
+  pub taken-extract : readFile file .status ≡ 0 → (extractStatus file l trace log out ≡ extract (readFile file .policy) l trace log out .status) × (extractCount file l trace log out ≡ extract (readFile file .policy) l trace log out .count) × (extractOut file l trace log out ≡ outAfter (readFile file .policy) l trace log out)
+  unfolding extractStatus extractCount extractOut
+  taken-extract none = let e = eq-eqb _ 0 none in (ap status-seen e, ap count-seen e, ap out-seen e)

@@ -2,5 +2,7 @@
 
 -- a run from a policy file's fresh state
 pub mod Runs
+-- an extract, by a policy file
+pub mod Extracts
 -- which numbers a run answers
 pub mod Laws

@@ -2,6 +2,7 @@
 
 ghost use mathlib.Core.Path.{_≡_};
 ghost use Rattle.capi.specs.Runs.{runStatus, runLog};
+ghost use Rattle.capi.specs.Extracts.{extractStatus, extractCount, extractOut};
 
 // Reads a policy file's bytes, makes its fresh state and runs a trace from it into a log. Answers 0, or 1 to 8 for the file, or 15 for a log that is too short; then
 // nothing is written.
@@ -19,4 +20,30 @@ pub extern "C" fn vigambul_run(file: &[u8], trace: &[u32], log: &mut [u32]) -> u
     let s = made.state;
     let ran = log::run(p, s, trace, log);
     ran.status
+}
+
+// Reads a policy file's bytes, and writes what a class may see of the log of a trace to the start of `out`. Answers how many numbers that is, and puts into `status` 0,
+// or 1 to 8 for the file, 9 for the class, 17 for the log's length or 16 for too little room; then the count is 0 and nothing is written.
+#[no_mangle]
+pub extern "C" fn vigambul_extract(
+    file: &[u8],
+    class: u32,
+    trace: &[u32],
+    log: &[u32],
+    out: &mut [u32],
+    status: &mut u32,
+) -> usize
+    ensures { λ r. ⌜ r ≡ extractCount (now (file .entry)) class (now (trace .entry)) (now (log .entry)) (now (out .entry)) ⌝ }
+    ensures { λ r. ⌜ now (status .exit) ≡ extractStatus (now (file .entry)) class (now (trace .entry)) (now (log .entry)) (now (out .entry)) ⌝ }
+    ensures { λ r. ⌜ now (out .exit) ≡ extractOut (now (file .entry)) class (now (trace .entry)) (now (log .entry)) (now (out .entry)) ⌝ }
+{
+    let reading = policy::file::read(file);
+    if reading.status != 0 {
+        *status = reading.status;
+        return 0;
+    }
+    let p = reading.policy;
+    let extracted = extract::extract(p, class, trace, log, out);
+    *status = extracted.status;
+    extracted.count
 }

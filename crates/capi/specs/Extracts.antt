@@ -1,0 +1,19 @@
+-- An extract of a log, by a policy file.
+use mathlib.Core.Bool.{cond}
+use mathlib.Core.List.{List}
+use Prim.Native.Nat.{ℕ}
+use lib.Dec.{eqb}
+use Rattle.policy.specs.File.{readFile}
+use Rattle.extract.specs.Extract.{extract, outAfter}
+
+-- the number that refuses the file, and else that of the extract
+unfoldable pub extractStatus : List ℕ → ℕ → List ℕ → List ℕ → List ℕ → ℕ
+extractStatus file l trace log out = cond (eqb (readFile file .status) 0) (extract (readFile file .policy) l trace log out .status) (readFile file .status)
+
+-- how many numbers it wrote: none, where the file is refused
+unfoldable pub extractCount : List ℕ → ℕ → List ℕ → List ℕ → List ℕ → ℕ
+extractCount file l trace log out = cond (eqb (readFile file .status) 0) (extract (readFile file .policy) l trace log out .count) 0
+
+-- the numbers of `out` after it: as they were, where the file is refused
+unfoldable pub extractOut : List ℕ → ℕ → List ℕ → List ℕ → List ℕ → List ℕ
+extractOut file l trace log out = cond (eqb (readFile file .status) 0) (outAfter (readFile file .policy) l trace log out) out

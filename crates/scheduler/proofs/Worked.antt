@@ -1,61 +1,137 @@
 -- The worked turns: (a) and (e) for every policy, the others computed.
 -- Assumes nothing.
-use mathlib.Core.Path.{_≡_, refl, sym, ap, _∙_, subst}
+use mathlib.Core.Path.{_≡_, refl, sym, ap, ap₂, _∙_, subst}
 use mathlib.Core.Logic.{⊎-elim}
 use mathlib.Core.Bool.{true, not, _&&_}
-use mathlib.Core.List.{List, [], _∷_}
+use mathlib.Core.List.{List, [], _∷_, _++_, map}
 use Prim.Native.Nat.{ℕ, zero, suc, _≤_}
 use native.Mathlib.Nat.{not-suc-le-zero, le-of-lt}
 use native.Mathlib.Omega.{arith}
 use borrow.Author.Tests.{eqb-true, eq-eqb}
-use lib.Dec.{ltb, eqb}
-use lib.ListN.{getD, set}
+use lib.Dec.{eqb}
+use lib.ListN.{getD, set, replicate}
 use Rattle.policy.specs.Below.{every, some, first, count, sum, setOf, listOf}
 use Rattle.policy.specs.Mask.{member, includes, size, nth, belowMask}
 use Rattle.policy.specs.Order.{flowsIn, strictlyIn, rowFits, rowsFit, antisymmetricAt, antisymmetric, transitiveAt, transitive, hasLeast, leastAt, leastIn, betweenIn, coversIn, coverSet}
 use Rattle.policy.specs.Turns.{minimumsSum, turnsSound, minimumsAbove, capIn}
 use Rattle.policy.specs.Timing.{within, gapsWithin, bankWithin, timingSound}
-use Rattle.policy.specs.Policy.{least, above, coversOf, cap, isClass, firstFailing, policyTests, refusal, storedFits, allStoredFits, shaped, inRange}
+use Rattle.policy.specs.Policy.{isClass, least, above, coversOf, cap, firstFailing, policyTests, refusal, storedFits, allStoredFits, shaped, inRange}
+use Rattle.policy.specs.File.{byte, word, kind, start, kindsFit, bodiesAbut, contentsFit, classCount, lengthsFit, rowAt, epochOf, minimumAt, timingOf, held, noPolicy, fileTests, status, refusedWith, readFile}
+use Rattle.policy.specs.File.{size as fileSize}
 use Rattle.policy.specs.Taken.{policyOf}
 use Rattle.policy.specs.declared.Policy.{Policy}
 use Rattle.policy.proofs.Truth.{either, not-both, and-fails-left, or-cases}
 use Rattle.policy.proofs.Laws.{policy-laws}
+use Rattle.scheduler.specs.Word.{classOf, kindOf, bankOf, tagOf, isOffer, requestOf, wordOf, classFits, bankAndKindFit, commandNumber}
+use Rattle.scheduler.specs.Queue.{headOf, lengthOf, place, waitingAt, enqueue, dequeue, offerStatus, queuesAfter}
 use Rattle.scheduler.specs.Traversal.{moved, movedPointer, named, takesBy, takes, Reached, tryClass, charge}
 use Rattle.scheduler.specs.Lookahead.{reaches, nextLeft, elides}
-use Rattle.scheduler.specs.Step.{turnStarts, turnNumber, leftAtStart, ownedBy, startTurn, turnsAt, turnWord, canActivate, drive}
-use Rattle.scheduler.specs.Word.{classOf, kindOf, bankOf, tagOf, requestOf, wordOf, classFits, bankAndKindFit}
-use Rattle.scheduler.specs.Queue.{headOf, lengthOf, place, waitingAt, enqueue, dequeue, offerStatus, queuesAfter}
-use Rattle.scheduler.specs.Wire.{dueAt, gapMet, gapsMetBy, gapsMet, offsetAllows}
+use Rattle.scheduler.specs.Wire.{dueAt, sentAt, activateAt, gapMet, gapsMetBy, gapsMet, offsetAllows, activated}
+use Rattle.scheduler.specs.Step.{turnStarts, turnNumber, leftAtStart, ownedBy, startTurn, turnsAt, turnWord, canActivate, drive, answered}
 use Rattle.scheduler.specs.Range.{zeros, emptyQueues, nothingInFlight, stateAtStart, freshState}
 use Rattle.scheduler.specs.Range.{inRange as stateRange}
-use Rattle.scheduler.specs.Call.{offerOn, offer, afterTick, tick}
-use Rattle.scheduler.specs.Worked.{example, alone, pair, fork, chain, turnsFrom, firstTurns, read, offered, WorkedTurns}
-use Rattle.scheduler.specs.declared.Wires.the-variants.{Activate}
+use Rattle.scheduler.specs.Call.{offerOn, silent, turnShown, afterTick, tickOn, tick}
+use Rattle.scheduler.specs.Trace.{callOf}
+use Rattle.scheduler.specs.Calls.{Answer, answer, answerTo, logOf}
+use Rattle.scheduler.specs.Worked.{example, alone, pair, fork, chain, turnsFrom, firstTurns, logFrom, read, printedFile, Case, table, WorkedTurns}
 use Rattle.scheduler.specs.declared.State.{State}
-use Rattle.scheduler.specs.declared.Offered.{Offered}
-use Rattle.scheduler.specs.declared.Ticked.{Ticked}
-use Rattle.scheduler.proofs.Climbing.{try-takes, try-passes, falls, reach-here}
+use Rattle.scheduler.specs.declared.trace.Call.{Call}
+use Rattle.scheduler.specs.declared.trace.Call.the-variants.{Tick, Offer, Malformed}
+use Rattle.scheduler.proofs.Climbing.{on-true, try-takes, try-passes, falls, reach-here}
 use Rattle.scheduler.proofs.Ordered.{climbs}
 use Rattle.scheduler.proofs.Elision.{ascends}
-use Rattle.scheduler.proofs.Answers.{offer-is, tick-is}
+use Rattle.scheduler.proofs.Answers.{offer-is, ticked, offered}
 use Rattle.scheduler.proofs.Whole.{in-range}
-use Rattle.scheduler.proofs.Kept.{fresh-whole, offer-in-range, tick-in-range}
+use Rattle.scheduler.proofs.Kept.{fresh-whole}
+use Rattle.scheduler.proofs.Listed.{answered-in-range}
 
-b : firstTurns (pair (0 ∷ 2 ∷ [])) (1 ∷ 0 ∷ []) 3 ≡ 257 ∷ 258 ∷ 2 ∷ []
+-- ---- the table, case by case
+
+turns-a : firstTurns alone (0 ∷ []) 4 ≡ 257 ∷ 257 ∷ 257 ∷ 257 ∷ []
+unfolding alone example turnsFrom firstTurns policyOf listOf every some first count setOf sum member includes size nth belowMask flowsIn strictlyIn leastAt leastIn betweenIn coversIn coverSet capIn minimumsAbove least zeros moved movedPointer named takesBy takes tryClass charge reaches nextLeft elides leftAtStart ownedBy startTurn turnWord
+turns-a = refl
+
+turns-b : firstTurns (pair (0 ∷ 2 ∷ [])) (1 ∷ 0 ∷ []) 3 ≡ 257 ∷ 258 ∷ 2 ∷ []
 unfolding pair example turnsFrom firstTurns policyOf listOf every some first count setOf sum member includes size nth belowMask flowsIn strictlyIn leastAt leastIn betweenIn coversIn coverSet capIn minimumsAbove least zeros moved movedPointer named takesBy takes tryClass charge reaches nextLeft elides leftAtStart ownedBy startTurn turnWord
-b = refl
+turns-b = refl
 
-c : firstTurns fork (1 ∷ 0 ∷ 0 ∷ []) 4 ≡ 257 ∷ 257 ∷ 2 ∷ 3 ∷ []
+turns-c : firstTurns fork (1 ∷ 0 ∷ 0 ∷ []) 4 ≡ 257 ∷ 257 ∷ 2 ∷ 3 ∷ []
 unfolding fork example turnsFrom firstTurns policyOf listOf every some first count setOf sum member includes size nth belowMask flowsIn strictlyIn leastAt leastIn betweenIn coversIn coverSet capIn minimumsAbove least zeros moved movedPointer named takesBy takes tryClass charge reaches nextLeft elides leftAtStart ownedBy startTurn turnWord
-c = refl
+turns-c = refl
 
-d : firstTurns chain (1 ∷ 1 ∷ 0 ∷ []) 3 ≡ 257 ∷ 258 ∷ 2 ∷ []
+turns-d : firstTurns chain (1 ∷ 1 ∷ 0 ∷ []) 3 ≡ 257 ∷ 258 ∷ 2 ∷ []
 unfolding chain example turnsFrom firstTurns policyOf listOf every some first count setOf sum member includes size nth belowMask flowsIn strictlyIn leastAt leastIn betweenIn coversIn coverSet capIn minimumsAbove least zeros moved movedPointer named takesBy takes tryClass charge reaches nextLeft elides leftAtStart ownedBy startTurn turnWord
-d = refl
+turns-d = refl
 
-g : (refusal (pair (1 ∷ 2 ∷ [])) ≡ 0) × (refusal (pair (2 ∷ 2 ∷ [])) ≡ 7)
+turns-e : firstTurns fork (0 ∷ 0 ∷ 0 ∷ []) 2 ≡ 2 ∷ 3 ∷ []
+unfolding fork example turnsFrom firstTurns policyOf listOf every some first count setOf sum member includes size nth belowMask flowsIn strictlyIn leastAt leastIn betweenIn coversIn coverSet capIn minimumsAbove least zeros moved movedPointer named takesBy takes tryClass charge reaches nextLeft elides leftAtStart ownedBy startTurn turnWord
+turns-e = refl
+
+refusals-g : refusal (pair (1 ∷ 2 ∷ [])) ∷ refusal (pair (2 ∷ 2 ∷ [])) ∷ [] ≡ 0 ∷ 7 ∷ []
 unfolding pair example policyOf listOf every some sum member includes belowMask flowsIn strictlyIn rowFits rowsFit antisymmetricAt antisymmetric transitiveAt transitive hasLeast leastAt minimumsSum turnsSound within gapsWithin bankWithin timingSound firstFailing policyTests refusal
-g = (refl, refl)
+refusals-g = refl
+
+-- ---- logs, each call without the test of its range, which every state reached from fresh passes
+
+plain : Policy → State → Call → Answer
+plain p s Tick = ticked (tickOn p s)
+plain p s (Offer r) = offered (offerOn s r)
+plain p s Malformed = record { state = s; status = 14; command = 0; response = 0; turn = 0 }
+
+plain-log : Policy → State → List ℕ → List ℕ
+plain-log p s [] = []
+plain-log p s (w ∷ ws) = plain p s (callOf w) .status ∷ plain p s (callOf w) .command ∷ plain p s (callOf w) .response ∷ plain p s (callOf w) .turn ∷ plain-log p (plain p s (callOf w) .state) ws
+
+plainly : (p : Policy) (s : State) (c : Call) → stateRange p s ≡ true → answer p s c ≡ plain p s c
+unfolding answer plain tick
+plainly p s Tick e = ap ticked (on-true (stateRange p s) (tickOn p s) (record { status = 13; state = s; shown = silent }) e)
+plainly p s (Offer r) e = ap offered (offer-is p s e r)
+plainly p s Malformed e = refl
+
+plain-right : (p : Policy) (s : State) (ws : List ℕ) → stateRange p s ≡ true → logOf p s ws ≡ plain-log p s ws
+unfolding logOf answerTo plain-log
+plain-right p s [] e = refl
+plain-right p s (w ∷ ws) e =
+    let a = answer p s (callOf w) in
+    let rest = plain-right p (a .state) ws (answered-in-range p s w e) in
+    ap (λ (l : List ℕ). a .status ∷ a .command ∷ a .response ∷ a .turn ∷ l) rest
+    ∙ ap (λ (x : Answer). x .status ∷ x .command ∷ x .response ∷ x .turn ∷ plain-log p (x .state) ws) (plainly p s (callOf w) e)
+
+-- from the fresh state of a policy in range
+from-fresh : (p : Policy) → inRange p ≡ true → (ws : List ℕ) → logFrom p ws ≡ plain-log p (freshState p) ws
+unfolding logFrom
+from-fresh p given ws = plain-right p (freshState p) ws (in-range p (freshState p) (fresh-whole p given))
+
+fit-f : inRange alone ≡ true
+unfolding alone example policyOf every some sum setOf listOf member includes belowMask flowsIn strictlyIn betweenIn coversIn coverSet rowFits rowsFit antisymmetricAt antisymmetric transitiveAt transitive hasLeast leastAt minimumsSum minimumsAbove capIn turnsSound within gapsWithin bankWithin timingSound firstFailing policyTests refusal coversOf cap isClass storedFits allStoredFits shaped inRange
+fit-f = refl
+
+computed-f : plain-log alone (freshState alone) (replicate 9 read ++ (0 ∷ read ∷ [])) ≡ zeros 32 ++ (11 ∷ 0 ∷ 0 ∷ 0 ∷ 0 ∷ read ∷ 0 ∷ 257 ∷ 0 ∷ 0 ∷ 0 ∷ 0 ∷ [])
+unfolding plain plain-log read alone example policyOf callOf isOffer requestOf wordOf classOf kindOf bankOf tagOf commandNumber classFits bankAndKindFit offerOn offerStatus queuesAfter enqueue dequeue headOf lengthOf place waitingAt freshState stateAtStart emptyQueues nothingInFlight zeros silent turnShown afterTick tickOn turnsAt turnStarts turnNumber turnWord canActivate drive answered dueAt sentAt activateAt gapMet gapsMetBy gapsMet offsetAllows activated first count size nth moved movedPointer named takesBy takes tryClass charge reaches nextLeft elides leftAtStart ownedBy startTurn least leastIn listOf every some setOf sum member includes belowMask flowsIn strictlyIn leastAt betweenIn coversIn coverSet capIn minimumsAbove
+computed-f = refl
+
+log-f : logFrom alone (replicate 9 read ++ (0 ∷ read ∷ [])) ≡ zeros 32 ++ (11 ∷ 0 ∷ 0 ∷ 0 ∷ 0 ∷ read ∷ 0 ∷ 257 ∷ 0 ∷ 0 ∷ 0 ∷ 0 ∷ [])
+log-f = from-fresh alone fit-f (replicate 9 read ++ (0 ∷ read ∷ [])) ∙ computed-f
+
+fit-h : inRange (readFile printedFile .policy) ≡ true
+unfolding printedFile byte word kind start fileSize kindsFit bodiesAbut contentsFit classCount lengthsFit rowAt epochOf minimumAt timingOf held noPolicy fileTests status refusedWith readFile every some sum setOf listOf member includes belowMask flowsIn strictlyIn betweenIn coversIn coverSet rowFits rowsFit antisymmetricAt antisymmetric transitiveAt transitive hasLeast leastAt minimumsSum minimumsAbove capIn turnsSound within gapsWithin bankWithin timingSound firstFailing policyTests refusal coversOf cap isClass storedFits allStoredFits shaped inRange
+fit-h = refl
+
+computed-h : plain-log (readFile printedFile .policy) (freshState (readFile printedFile .policy)) (0x80010007 ∷ 0 ∷ 0 ∷ 0 ∷ []) ≡ 0 ∷ 0 ∷ 0 ∷ 0 ∷ 0 ∷ 0x80010007 ∷ 0 ∷ 0x101 ∷ 0 ∷ 0xC0010007 ∷ 0 ∷ 0 ∷ 0 ∷ 0 ∷ 0x80010007 ∷ 0 ∷ []
+unfolding plain plain-log printedFile byte word kind start fileSize kindsFit bodiesAbut contentsFit classCount lengthsFit rowAt epochOf minimumAt timingOf held noPolicy fileTests status refusedWith readFile callOf isOffer requestOf wordOf classOf kindOf bankOf tagOf commandNumber classFits bankAndKindFit offerOn offerStatus queuesAfter enqueue dequeue headOf lengthOf place waitingAt freshState stateAtStart emptyQueues nothingInFlight zeros silent turnShown afterTick tickOn turnsAt turnStarts turnNumber turnWord canActivate drive answered dueAt sentAt activateAt gapMet gapsMetBy gapsMet offsetAllows activated first count size nth moved movedPointer named takesBy takes tryClass charge reaches nextLeft elides leftAtStart ownedBy startTurn least leastIn listOf every some setOf sum member includes belowMask flowsIn strictlyIn leastAt betweenIn coversIn coverSet capIn minimumsAbove rowFits rowsFit antisymmetricAt antisymmetric transitiveAt transitive hasLeast minimumsSum turnsSound within gapsWithin bankWithin timingSound firstFailing policyTests refusal
+computed-h = refl
+
+log-h : logFrom (readFile printedFile .policy) (0x80010007 ∷ 0 ∷ 0 ∷ 0 ∷ []) ≡ 0 ∷ 0 ∷ 0 ∷ 0 ∷ 0 ∷ 0x80010007 ∷ 0 ∷ 0x101 ∷ 0 ∷ 0xC0010007 ∷ 0 ∷ 0 ∷ 0 ∷ 0 ∷ 0x80010007 ∷ 0 ∷ []
+log-h = from-fresh (readFile printedFile .policy) fit-h (0x80010007 ∷ 0 ∷ 0 ∷ 0 ∷ []) ∙ computed-h
+
+-- ---- the table
+
+also : {xs ys : List ℕ} → {xss yss : List (List ℕ)} → xs ≡ ys → xss ≡ yss → xs ∷ xss ≡ ys ∷ yss
+also e es = ap₂ (λ (l : List ℕ) (ls : List (List ℕ)). l ∷ ls) e es
+
+cases : map (λ (c : Case). c .yielded) table ≡ map (λ (c : Case). c .stated) table
+unfolding table
+cases = also turns-a (also turns-b (also turns-c (also turns-d (also turns-e (also log-f (also refusals-g (also log-h refl)))))))
 
 -- ---- (a)
 
@@ -101,63 +177,5 @@ unfolding startTurn ownedBy
 e p given k lengths left pointers nobody =
     idle-ends p given lengths (leftAtStart p k left) nobody 16 pointers (least p) (le-of-lt (policy-laws p given .higher .few (least p)))
 
--- ---- (f)
-
-fit : inRange alone ≡ true
-unfolding alone example policyOf listOf every some sum setOf member includes belowMask flowsIn strictlyIn betweenIn coversIn coverSet rowFits rowsFit antisymmetricAt antisymmetric transitiveAt transitive hasLeast leastAt minimumsSum minimumsAbove capIn turnsSound within gapsWithin bankWithin timingSound firstFailing policyTests refusal coversOf cap isClass storedFits allStoredFits shaped inRange
-fit = refl
-
--- so many offers, each without the test
-plain : ℕ → State
-plain zero = freshState alone
-plain (suc k) = offerOn (plain k) read .state
-
-ranges : (k : ℕ) → stateRange alone (offered k) ≡ true
-unfolding offered
-ranges zero = in-range alone (freshState alone) (fresh-whole alone fit)
-ranges (suc k) = offer-in-range alone (offered k) read (ranges k)
-
-plainly : (k : ℕ) → offered k ≡ plain k
-unfolding offered plain
-plainly zero = refl
-plainly (suc k) = ap (λ (o : Offered). o .state) (offer-is alone (offered k) (ranges k) read) ∙ ap (λ (s : State). offerOn s read .state) (plainly k)
-
-plain-ranges : (k : ℕ) → stateRange alone (plain k) ≡ true
-plain-ranges k = ap (stateRange alone) (sym (plainly k)) ∙ ranges k
-
-status : (k : ℕ) → offer alone (offered k) read .status ≡ offerOn (plain k) read .status
-status k = ap (λ (s : State). offer alone s read .status) (plainly k) ∙ ap (λ (o : Offered). o .status) (offer-is alone (plain k) (plain-ranges k) read)
-
-eighth : offerOn (plain 7) read .status ≡ 0
-unfolding plain read offerOn offerStatus queuesAfter enqueue headOf lengthOf place wordOf classFits bankAndKindFit freshState stateAtStart emptyQueues nothingInFlight zeros alone example policyOf
-eighth = refl
-
-ninth : offerOn (plain 8) read .status ≡ 11
-unfolding plain read offerOn offerStatus queuesAfter enqueue headOf lengthOf place wordOf classFits bankAndKindFit freshState stateAtStart emptyQueues nothingInFlight zeros alone example policyOf
-ninth = refl
-
-at-first : ltb (plain 8 .cycle) 16777215 ≡ true
-unfolding plain offerOn freshState stateAtStart
-at-first = refl
-
-activates : afterTick alone (plain 8) .shown .wires ≡ Activate read
-unfolding plain read offerOn offerStatus queuesAfter enqueue headOf lengthOf place wordOf classFits bankAndKindFit freshState stateAtStart emptyQueues nothingInFlight alone afterTick turnsAt turnStarts turnNumber canActivate drive dueAt waitingAt dequeue kindOf bankOf gapMet gapsMetBy gapsMet offsetAllows example policyOf listOf every some first count setOf sum member includes size nth belowMask flowsIn strictlyIn leastAt leastIn betweenIn coversIn coverSet capIn minimumsAbove least zeros moved movedPointer named takesBy takes tryClass charge reaches nextLeft elides leftAtStart ownedBy startTurn requestOf classOf tagOf
-activates = refl
-
-after-activate : offerOn (afterTick alone (plain 8) .state) read .status ≡ 0
-unfolding plain read offerOn offerStatus queuesAfter enqueue headOf lengthOf place wordOf classFits bankAndKindFit freshState stateAtStart emptyQueues nothingInFlight alone afterTick turnsAt turnStarts turnNumber canActivate drive dueAt waitingAt dequeue kindOf bankOf gapMet gapsMetBy gapsMet offsetAllows example policyOf listOf every some first count setOf sum member includes size nth belowMask flowsIn strictlyIn leastAt leastIn betweenIn coversIn coverSet capIn minimumsAbove least zeros moved movedPointer named takesBy takes tryClass charge reaches nextLeft elides leftAtStart ownedBy startTurn
-after-activate = refl
-
-f : (offer alone (offered 7) read .status ≡ 0) × (offer alone (offered 8) read .status ≡ 11) × (tick alone (offered 8) .shown .wires ≡ Activate read) × (offer alone (tick alone (offered 8) .state) read .status ≡ 0)
-f =
-    let ticked = ap (tick alone) (plainly 8) ∙ tick-is alone (plain 8) (plain-ranges 8) at-first in
-    let after = ap (λ (t : Ticked). t .state) ticked in
-    let range = ap (stateRange alone) (sym (ap (λ (t : Ticked). t .state) (tick-is alone (plain 8) (plain-ranges 8) at-first))) ∙ tick-in-range alone (plain 8) (plain-ranges 8) in (
-      status 7 ∙ eighth,
-      status 8 ∙ ninth,
-      ap (λ (t : Ticked). t .shown .wires) ticked ∙ activates,
-      ap (λ (s : State). offer alone s read .status) after ∙ ap (λ (o : Offered). o .status) (offer-is alone (afterTick alone (plain 8) .state) range read) ∙ after-activate,
-    )
-
 pub worked-turns : WorkedTurns
-worked-turns = record { a = a; b = b; c = c; d = d; e = e; f = f; g = g }
+worked-turns = record { cases = cases; a = a; e = e }

@@ -1,4 +1,4 @@
-//! Links the static library with `vigambul_run`.
+//! Links the static library with `vigambul_run` and `vigambul_extract`.
 
 use std::path::{Path, PathBuf};
 use std::process::exit;

@@ -273,6 +273,8 @@ pub enum Cut {
 
 /// Two lists that agree for a class, under one policy.
 pub struct Pair {
+    /// The policy's file, and the policy itself.
+    pub file: Vec<u8>,
     pub policy: Policy,
     /// L.
     pub class: usize,
@@ -314,7 +316,8 @@ pub fn purge(policy: &Policy, class: usize, list: &[u32]) -> Vec<u32> {
 /// The pair of a seed.
 pub fn pair(seed: u64) -> Pair {
     let random = &mut Random::new(seed);
-    let policy = searched_policy(random);
+    let file = searched_file(random);
+    let (policy, _) = policy::read(&file);
     let class = searched_class(random, &policy);
     let cuts = [0, 1].map(|_| match random.below(10) {
         0 => Cut::Runs,
@@ -323,6 +326,7 @@ pub fn pair(seed: u64) -> Pair {
     });
     let lists = agreeing_lists(random, &policy, class);
     Pair {
+        file,
         policy,
         class,
         lists,
@@ -332,7 +336,7 @@ pub fn pair(seed: u64) -> Pair {
 
 /// Short turns and epochs, so that a list has many of both, and few classes, so
 /// that each has a part in it; with now and then a policy of any size.
-fn searched_policy(random: &mut Random) -> Policy {
+fn searched_file(random: &mut Random) -> Vec<u8> {
     let n = match random.below(10) {
         0 => random.between(1, MOST_CLASSES),
         _ => random.between(2, 5),
@@ -357,8 +361,7 @@ fn searched_policy(random: &mut Random) -> Policy {
         let dead = usize::from(timing[1]);
         timing[0] = (dead + random.between(1, 8)) as u8;
     }
-    let file = PolicyFields::new(&rows, epoch as u8, &minimums, timing).encode();
-    policy::read(&file).0
+    PolicyFields::new(&rows, epoch as u8, &minimums, timing).encode()
 }
 
 /// Any class, though one that may not see all others if chance allows.

@@ -106,7 +106,8 @@ pub fn run(
     run_planted(policy, state, trace, log, Planted::Nothing)
 }
 
-pub(crate) fn run_planted(
+/// The same run with a wrong rule in place. For tests.
+pub fn run_planted(
     policy: &Policy,
     state: &mut State,
     trace: &[u32],

@@ -13,7 +13,23 @@ extern "C" {
         log: *mut u32,
         log_len: usize,
     ) -> u32;
+
+    fn vigambul_extract(
+        policy: *const u8,
+        policy_len: usize,
+        class: u32,
+        trace: *const u32,
+        trace_len: usize,
+        log: *const u32,
+        log_len: usize,
+        out: *mut u32,
+        out_len: usize,
+        status: *mut u32,
+    ) -> usize;
 }
+
+/// What a status holds before the call: no call leaves it.
+const NO_STATUS: u32 = 0x5AA5_5AA5;
 
 /// Reads a policy file's bytes, makes its fresh state and runs the trace into
 /// the log. Answers 0, 1 to 8 where the file is refused, or 15 where the log is
@@ -31,4 +47,36 @@ pub fn run(policy: &[u8], trace: &[u32], log: &mut [u32]) -> u32 {
             log.len(),
         )
     }
+}
+
+/// Reads a policy file's bytes and writes what a class may see of a trace's log
+/// to the start of `out`. Answers how many numbers it wrote, and the status: 0,
+/// 1 to 8 where the file is refused, or 9, 17 or 16; refused, the count is 0 and
+/// nothing is written.
+pub fn extract(
+    policy: &[u8],
+    class: u32,
+    trace: &[u32],
+    log: &[u32],
+    out: &mut [u32],
+) -> (usize, u32) {
+    let mut status = NO_STATUS;
+    // SAFETY: each pointer and length is that of a slice which lives for the
+    // whole call, as does the status; only the status and `out`, which is lent
+    // for writing, are written.
+    let count = unsafe {
+        vigambul_extract(
+            policy.as_ptr(),
+            policy.len(),
+            class,
+            trace.as_ptr(),
+            trace.len(),
+            log.as_ptr(),
+            log.len(),
+            out.as_mut_ptr(),
+            out.len(),
+            &mut status,
+        )
+    };
+    (count, status)
 }

@@ -4,6 +4,7 @@
 
 use std::collections::BTreeMap;
 use std::fs;
+use std::ops::Range;
 use std::path::{Path, PathBuf};
 use std::process::{Child, Command, ExitStatus, Output, Stdio};
 use std::sync::mpsc::{self, RecvTimeoutError};
@@ -19,7 +20,8 @@ use vigambul_model::random::Random;
 use vigambul_model::state;
 use vigambul_model::trace::{self, LINE};
 
-/// The seeds of the generated folders, unless the environment says otherwise.
+/// The first seed and the number of generated folders, unless the environment
+/// says otherwise.
 const FIRST_SEED: u64 = 1_000_000;
 const FOLDERS: u64 = 2_500;
 
@@ -105,12 +107,16 @@ impl Case {
     }
 }
 
-/// Every generated case. `VIGAMBUL_FOLDERS` sets how many, `VIGAMBUL_FIRST_SEED`
-/// from which seed on.
+/// Every generated case. `VIGAMBUL_FOLDERS` sets how many.
 pub fn cases() -> impl Iterator<Item = Case> {
+    seeds("VIGAMBUL_FOLDERS", FOLDERS).map(Case::new)
+}
+
+/// So many seeds, unless the environment sets another number under a name.
+/// `VIGAMBUL_FIRST_SEED` sets the first.
+pub fn seeds(name: &str, count: u64) -> Range<u64> {
     let first = number_in_environment("VIGAMBUL_FIRST_SEED").unwrap_or(FIRST_SEED);
-    let count = number_in_environment("VIGAMBUL_FOLDERS").unwrap_or(FOLDERS);
-    (first..first + count).map(Case::new)
+    first..first + number_in_environment(name).unwrap_or(count)
 }
 
 fn number_in_environment(name: &str) -> Option<u64> {
@@ -127,9 +133,55 @@ const LENGTHS: [&str; 4] = [
 ];
 
 /// How often each thing was met that a test must meet.
+pub struct Tally(BTreeMap<String, u64>);
+
+impl Tally {
+    pub fn new<'a>(names: impl IntoIterator<Item = &'a str>) -> Tally {
+        Tally(
+            names
+                .into_iter()
+                .map(|name| (name.to_string(), 0))
+                .collect(),
+        )
+    }
+
+    pub fn met(&mut self, name: &str) {
+        self.add(name, 1);
+    }
+
+    /// Counts what was met so many times. Only what must be met is counted.
+    pub fn add(&mut self, name: &str, times: u64) {
+        match self.0.get_mut(name) {
+            Some(count) => *count += times,
+            None => panic!("`{name}` is not among what must be met"),
+        }
+    }
+
+    fn counts(&self) -> impl Iterator<Item = (&str, u64)> {
+        self.0.iter().map(|(name, &count)| (name.as_str(), count))
+    }
+
+    /// A generator that never produces a case tests nothing.
+    pub fn require_all_met(&self) {
+        require_all_met(self.counts());
+    }
+}
+
+fn require_all_met<'a>(counts: impl Iterator<Item = (&'a str, u64)>) {
+    let mut missed = Vec::new();
+    for (name, count) in counts {
+        println!("{count:>9} {name}");
+        if count == 0 {
+            missed.push(name);
+        }
+    }
+    assert!(missed.is_empty(), "never met: {missed:?}");
+}
+
+/// What generated folders met.
 pub struct Counts {
     coverage: Coverage,
-    others: BTreeMap<String, u64>,
+    others: Tally,
 }
 
 impl Counts {
@@ -139,7 +191,7 @@ impl Counts {
         let names = CHANGES.iter().chain(&LENGTHS).chain(others);
         Counts {
             coverage: Coverage::new(),
-            others: names.map(|name| (name.to_string(), 0)).collect(),
+            others: Tally::new(names.copied()),
         }
     }
 
@@ -157,20 +209,11 @@ impl Counts {
     }
 
     pub fn met(&mut self, name: &str) {
-        *self.others.entry(name.to_string()).or_insert(0) += 1;
+        self.others.met(name);
     }
 
-    /// A generator that never produces a case tests nothing.
     pub fn require_all_met(&self) {
-        let others = self.others.iter().map(|(name, &n)| (name.as_str(), n));
-        let mut missed = Vec::new();
-        for (name, count) in self.coverage.counts().chain(others) {
-            println!("{count:>9} {name}");
-            if count == 0 {
-                missed.push(name);
-            }
-        }
-        assert!(missed.is_empty(), "never met: {missed:?}");
+        require_all_met(self.coverage.counts().chain(self.others.counts()));
     }
 }
 

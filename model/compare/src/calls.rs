@@ -1,0 +1,74 @@
+//! The calls of the library for C, of the library itself or of something in its
+//! place: so the tests can show that they find what is wrong.
+
+use vigambul_model::planted::Planted;
+use vigambul_model::trace::run_planted;
+use vigambul_model::{extract, policy, state};
+
+use crate::library;
+
+/// What the library for C does.
+pub trait Calls {
+    /// The run of a trace from the fresh state of a policy file: the status.
+    fn run(&self, policy: &[u8], trace: &[u32], log: &mut [u32]) -> u32;
+
+    /// The extract of a trace's log for a class: the count and the status.
+    fn extract(
+        &self,
+        policy: &[u8],
+        class: u32,
+        trace: &[u32],
+        log: &[u32],
+        out: &mut [u32],
+    ) -> (usize, u32);
+}
+
+/// The built library.
+pub struct Library;
+
+impl Calls for Library {
+    fn run(&self, policy: &[u8], trace: &[u32], log: &mut [u32]) -> u32 {
+        library::run(policy, trace, log)
+    }
+
+    fn extract(
+        &self,
+        policy: &[u8],
+        class: u32,
+        trace: &[u32],
+        log: &[u32],
+        out: &mut [u32],
+    ) -> (usize, u32) {
+        library::extract(policy, class, trace, log, out)
+    }
+}
+
+/// The model, with a wrong rule in place or none.
+pub struct Model(pub Planted);
+
+impl Calls for Model {
+    fn run(&self, policy: &[u8], trace: &[u32], log: &mut [u32]) -> u32 {
+        let (policy, refusal) = policy::read(policy);
+        let (mut state, _) = state::fresh(&policy);
+        let run = || run_planted(&policy, &mut state, trace, log, self.0);
+        refusal
+            .map_or_else(run, Err)
+            .map_or_else(|refusal| refusal.number(), |()| 0)
+    }
+
+    fn extract(
+        &self,
+        policy: &[u8],
+        class: u32,
+        trace: &[u32],
+        log: &[u32],
+        out: &mut [u32],
+    ) -> (usize, u32) {
+        let (policy, refusal) = policy::read(policy);
+        if let Some(refusal) = refusal {
+            return (0, refusal.number());
+        }
+        let (count, refusal) = extract::extract(&policy, class as usize, trace, log, out);
+        (count, refusal.map_or(0, |refusal| refusal.number()))
+    }
+}

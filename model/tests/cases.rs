@@ -12,7 +12,7 @@ use vigambul_model::policy::Policy;
 use vigambul_model::refusal::Refusal;
 use vigambul_model::state::{self, Kind, Request, State};
 use vigambul_model::tick::{offer, tick};
-use vigambul_model::trace::{tick_line, Word, LINE};
+use vigambul_model::trace::{run, tick_line, Word, LINE};
 
 /// The values that each byte of document 01's file is set to.
 const VALUES: [u8; 12] = [0, 1, 2, 3, 4, 16, 17, 31, 32, 64, 65, 255];
@@ -364,6 +364,204 @@ fn stored() -> String {
     lines.collect()
 }
 
+/// What every number of a log is before a run.
+const MARKER: u32 = 7777;
+
+/// A run: its status, and whether the state is as it was.
+fn ran(policy: &Policy, state: &State, list: &[u32], log: &mut [u32]) -> String {
+    let mut after = state.clone();
+    let status = run(policy, &mut after, list, log).map_or_else(Refusal::number, |()| 0);
+    let kept = if *state == after {
+        "as it was"
+    } else {
+        "changed"
+    };
+    format!("{status}, {kept}")
+}
+
+/// A log, four numbers to a line.
+fn log_lines(name: &str, log: &[u32]) -> String {
+    let lines = log.chunks_exact(LINE).enumerate();
+    lines
+        .map(|(place, line)| {
+            let [status, command, response, turn] = line else {
+                unreachable!("a line of four")
+            };
+            format!("{name} {place}: {status} {command} {response} {turn}\n")
+        })
+        .collect()
+}
+
+/// A run from document 01's fresh state, moved to a cycle, and its log by lines.
+fn listed(name: &str, cycle: u32, list: &[u32]) -> String {
+    let policy = printed_policy();
+    let state = State {
+        cycle,
+        ..fresh(&policy)
+    };
+    let mut log = vec![MARKER; LINE * list.len()];
+    let line = ran(&policy, &state, list, &mut log);
+    format!("{name}: {line}\n") + &log_lines(name, &log)
+}
+
+/// Row 14: words of neither form beside good ones. Bit 31 clear, and other bits; bits 29, 30, 22 and
+/// 23 of an offer.
+const MALFORMED: [u32; 18] = [
+    0x8001_0007,
+    1,
+    0,
+    0x4000_0000,
+    0xA001_0007,
+    0xC001_0007,
+    0,
+    0x8041_0007,
+    0x8081_0007,
+    0x0001_0007,
+    0x0100_0000,
+    0x7FFF_FFFF,
+    0xFFFF_FFFF,
+    0x8110_0008,
+    0,
+    0x2000_0000,
+    0,
+    0,
+];
+
+/// Rows 9, 10 and 11 inside a run, and the order 9, 10, 11; after an activate one more is taken.
+fn refused() -> String {
+    #[rustfmt::skip]
+    let list = [
+        0x8200_0001, 0x9F00_0002, 0x8008_0003, 0x800F_0004, 0x8020_0005, 0x8030_0006, 0x8228_0007,
+        0x8000_0008, 0x8001_0009, 0x8002_000A, 0x8003_000B, 0x8004_000C, 0x8005_000D, 0x8006_000E, 0x8007_000F,
+        0x8000_0010, 0x8008_0011, 0x8100_0012, 0, 0x8000_0013, 0x8000_0014, 0, 0,
+    ];
+    listed("refused lines", 0, &list)
+}
+
+/// Row 12 inside a run, and ticks up to the last.
+fn last_ticks() -> String {
+    let refused = [0, 0x8200_0001, 0x8008_0002, 1, 0];
+    let taken = [0, 0x8001_0003, 0, 1, 0x8100_0004];
+    let list = [0x8001_0007, 0x8112_0008, 0, 0, 0, 0, 0, 0x8000_0009, 0];
+    [
+        listed("after the last tick", 16_777_215, &refused),
+        listed("an offer after the last tick", 16_777_215, &taken),
+        listed("last cycles of a run", 16_777_211, &list),
+    ]
+    .concat()
+}
+
+/// A run over the first numbers of a trace with a log of a length, and the whole log on its line.
+fn whole(name: &str, policy: &Policy, state: &State, numbers: usize, length: usize) -> String {
+    let list = &[0x8001_0007, 0, 0][..numbers];
+    let mut log = vec![MARKER; length];
+    let line = ran(policy, state, list, &mut log);
+    let log: String = log.iter().map(|number| format!(" {number}")).collect();
+    format!("{name}, trace of {numbers}, log of {length}: {line}, log{log}\n")
+}
+
+/// Row 15: document 01's example, and logs too short by some numbers, just long enough and longer;
+/// and no numbers.
+fn room() -> String {
+    let policy = printed_policy();
+    let case = |numbers, length| {
+        let state = fresh(&policy);
+        whole("a fresh state", &policy, &state, numbers, length)
+    };
+    [
+        case(1, 3),
+        case(1, 4),
+        case(3, 8),
+        case(3, 9),
+        case(3, 10),
+        case(3, 11),
+        case(3, 12),
+        case(3, 13),
+        case(3, 16),
+        case(0, 0),
+        case(0, 5),
+        case(1, 0),
+    ]
+    .concat()
+}
+
+/// Row 13: a state and a policy out of range, with room for the log, without (13 comes before 15),
+/// and with nothing to run.
+fn out_of_range() -> String {
+    let mut nine = busy();
+    nine.classes[0].queue = vec![request(0, 1, 7); 9].into();
+    let mut unfit = fork();
+    unfit.epoch = 0;
+    let state = |numbers, length| whole("a queue length of 9", &fork(), &nine, numbers, length);
+    let policy = |numbers, length| whole("a policy of E = 0", &unfit, &busy(), numbers, length);
+    [
+        state(2, 8),
+        state(2, 7),
+        state(0, 4),
+        policy(2, 8),
+        policy(2, 7),
+        policy(0, 4),
+    ]
+    .concat()
+}
+
+/// Offers of every class, refusals of each kind that a run goes on after but 12, and ticks over an
+/// epoch's end.
+#[rustfmt::skip]
+const FORTY: [u32; 40] = [
+    0x8000_0001, 0x8011_0002, 0x8002_0003, 0x8013_0004, 0x8000_0005, 0x8014_0006, 0x8005_0007, 0x8016_0008,
+    0x8000_0009, 0x8110_000A, 0x8200_000B, 0, 0x8007_000C, 0x8400_000D, 0, 0x4000_0000, 0, 0x8108_000E,
+    0, 0, 0x8320_000F, 0, 0, 0x8312_0010, 0, 0, 1, 0x8201_0011, 0, 0, 0, 0, 0x8103_0012, 0, 0, 0, 0,
+    0xC000_0013, 0, 0,
+];
+
+/// Whether two ways to make the same calls lead to one state and one log.
+fn agreement(name: &str, one: (&State, &[u32]), other: (&State, &[u32])) -> String {
+    let state = if one.0 == other.0 {
+        "the same"
+    } else {
+        "another"
+    };
+    let log = if one.1 == other.1 {
+        "the same"
+    } else {
+        "another"
+    };
+    format!("{name}: {state} state, {log} log\n")
+}
+
+/// The four log numbers of a trace number's single call. One of neither form is no call, and a run
+/// writes 14 for it.
+fn single(policy: &Policy, state: &mut State, number: u32) -> [u32; LINE] {
+    let line = match Word::of(number) {
+        Word::Tick => tick(policy, state).map(|record| tick_line(&record)),
+        Word::Offer(request) => offer(policy, state, request).map(|()| [0; LINE]),
+        Word::Malformed => Err(Refusal::Malformed),
+    };
+    line.unwrap_or_else(refused_line)
+}
+
+/// A run over a diamond in one piece, cut in two at every place, and made by single calls.
+fn pieces() -> String {
+    let policy = policy(&DIAMOND, 4, &[1; 4], [4, 3, 1, 2, 3, 1, 2, 3, 1, 3]);
+    let mut end = fresh(&policy);
+    let log = run_on(&policy, &mut end, &FORTY);
+    let cuts = (0..=FORTY.len()).map(|place| {
+        let (first, second) = FORTY.split_at(place);
+        let mut state = fresh(&policy);
+        let mut parts = run_on(&policy, &mut state, first);
+        parts.extend(run_on(&policy, &mut state, second));
+        let name = format!("cut in two at {place}");
+        agreement(&name, (&end, &log), (&state, &parts))
+    });
+    let mut state = fresh(&policy);
+    let calls = FORTY.map(|number| single(&policy, &mut state, number));
+    "in one piece: 0\n".to_string()
+        + &log_lines("in one piece", &log)
+        + &cuts.collect::<String>()
+        + &agreement("by single calls", (&end, &log), (&state, &calls.concat()))
+}
+
 /// The cases of policy files.
 fn files() -> String {
     examples() + &sizes() + &cuts() + &changes()
@@ -386,11 +584,24 @@ fn calls() -> String {
     .concat()
 }
 
+/// The cases of runs.
+fn runs() -> String {
+    [
+        listed("malformed words", 0, &MALFORMED),
+        refused(),
+        last_ticks(),
+        room(),
+        out_of_range(),
+        pieces(),
+    ]
+    .concat()
+}
+
 #[test]
 fn the_proved_program_answers_as_the_model_does() {
     let stored = Path::new(env!("CARGO_MANIFEST_DIR")).join("../crates/cases/stdout");
     let stored = fs::read_to_string(stored).expect("the stored output of cases");
-    let answers = files() + &calls();
+    let answers = files() + &calls() + &runs();
     for (place, (proved, model)) in stored.lines().zip(answers.lines()).enumerate() {
         assert_eq!(proved, model, "line {}", place + 1);
     }
@@ -420,6 +631,33 @@ fn the_cases_meet_every_number_of_offers_and_ticks() {
         );
     }
     assert!(!answers.contains("changed"));
+}
+
+/// Runs meet each of their numbers and of their lines'; a refused one changes no state and writes no
+/// number, and cut or made by single calls a run leads to the same.
+#[test]
+fn the_cases_meet_every_number_of_runs() {
+    let answers = runs();
+    for number in [0, 13, 15] {
+        let answer = format!(": {number}, ");
+        assert!(
+            answers.lines().any(|line| line.contains(&answer)),
+            "no run gets {number}"
+        );
+    }
+    for number in [0, 9, 10, 11, 12, 14] {
+        let answer = format!(": {number} ");
+        assert!(
+            answers.lines().any(|line| line.contains(&answer)),
+            "no line of a run gets {number}"
+        );
+    }
+    let refused = |line: &&str| line.contains(": 13, ") || line.contains(": 15, ");
+    for line in answers.lines().filter(refused) {
+        let (_, log) = line.split_once(", as it was, log").expect(line);
+        assert!(log.split_whitespace().all(|number| number == "7777"));
+    }
+    assert!(!answers.contains("another"));
 }
 
 /// Every clause's case breaks it, by the model's own range check, and every case inside is taken.

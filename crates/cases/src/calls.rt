@@ -7,7 +7,7 @@ use scheduler::Request;
 use scheduler::State;
 
 // 0 below 1 and 2, both below 3. E = 5, every minimum 1; turns of 7, dead time 3, gaps 1, 2, 3, 1, same-bank gaps 2 and 3, column delay 1, response delay 3.
-fn diamond_file() -> [u8; 40] {
+pub(crate) fn diamond_file() -> [u8; 40] {
     [
         3,
         1,
@@ -52,7 +52,7 @@ fn diamond_file() -> [u8; 40] {
     ]
 }
 
-fn printed_policy() -> Policy {
+pub(crate) fn printed_policy() -> Policy {
     let file = files::printed();
     let reading = policy::file::read(&file);
     let p = reading.policy;
@@ -66,35 +66,37 @@ fn diamond_policy() -> Policy {
     p
 }
 
-pub fn fresh(p: Policy) -> State {
+pub(crate) fn fresh(p: Policy) -> State {
     let made = scheduler::fresh(p);
     let s = made.state;
     s
 }
 
-// Of a refused call, whether the state that it handed back is the one that it was given.
-fn kept(status: u32, before: State, after: State) {
-    if status != 0 {
-        if same::same_state(before, after) {
-            files::words(b", as it was");
-        } else {
-            files::words(b", changed");
-        }
+// Whether the state that a call handed back is the one that it was given.
+pub(crate) fn stands(before: State, after: State) {
+    if same::same_state(before, after) {
+        files::words(b", as it was");
+    } else {
+        files::words(b", changed");
     }
 }
 
-fn four(status: u32, command: u32, response: u32, turn: u32) {
+// The same, of a refused call alone.
+fn kept(status: u32, before: State, after: State) {
+    if status != 0 {
+        stands(before, after);
+    }
+}
+
+pub(crate) fn four(status: u32, command: u32, response: u32, turn: u32) {
     files::number(status as u64);
-    files::words(b" ");
-    files::number(command as u64);
-    files::words(b" ");
-    files::number(response as u64);
-    files::words(b" ");
-    files::number(turn as u64);
+    files::spaced(command);
+    files::spaced(response);
+    files::spaced(turn);
 }
 
 // A tick, its four log numbers, and the line's end.
-pub fn ticked(p: Policy, s: State) -> State {
+pub(crate) fn ticked(p: Policy, s: State) -> State {
     let made = scheduler::tick(p, s);
     let after = made.state;
     let shown = made.shown;
@@ -107,7 +109,7 @@ pub fn ticked(p: Policy, s: State) -> State {
 }
 
 // An offer, its four log numbers, and the line's end.
-pub fn offered(p: Policy, s: State, r: Request) -> State {
+pub(crate) fn offered(p: Policy, s: State, r: Request) -> State {
     let made = scheduler::offer(p, s, r);
     let after = made.state;
     four(made.status, 0, 0, 0);
@@ -126,7 +128,7 @@ fn called(p: Policy, s: State, word: u32) -> State {
     }
 }
 
-fn label(name: &[u8], at: usize) {
+pub(crate) fn label(name: &[u8], at: usize) {
     files::words(name);
     files::words(b" ");
     files::number(at as u64);
@@ -144,27 +146,11 @@ fn run(name: &[u8], p: Policy, s: State, trace: &[u32]) {
     }
 }
 
-fn silently(p: Policy, s: State, word: u32) -> State {
-    if word == 0 {
-        let made = scheduler::tick(p, s);
-        let after = made.state;
-        after
-    } else {
-        let r = scheduler::words::request_of(word);
-        let made = scheduler::offer(p, s, r);
-        let after = made.state;
-        after
-    }
-}
-
-// The state after the calls of a list.
-pub fn after(p: Policy, s: State, trace: &[u32]) -> State {
-    let mut state = s;
-    let mut at = 0;
-    while at < trace.len() {
-        state = silently(p, state, trace[at]);
-        at += 1;
-    }
+// The state after the calls of a list, of which there are eight or less.
+pub(crate) fn after(p: Policy, s: State, trace: &[u32]) -> State {
+    let mut log = [0u32; 32];
+    let made = log::run(p, s, trace, &mut log);
+    let state = made.state;
     state
 }
 
@@ -186,21 +172,26 @@ fn tick_line(name: &[u8], p: Policy, s: State) {
     let _ = ticked(p, s);
 }
 
-// Rows 9 and 10: the highest class, bank and kind, what lies above them, and what a word's fields would not hold.
-pub fn bounds() {
+// An offer to document 01's fresh state.
+fn fresh_line(name: &[u8], class: u32, kind: u32, bank: u32) {
     let p = printed_policy();
     let s = fresh(p);
-    offer_line(b"class 1, a write, bank 7", p, s, 1, 1, 7);
-    offer_line(b"class 2 where n = 2", p, s, 2, 1, 7);
-    offer_line(b"class 16", p, s, 16, 1, 7);
-    offer_line(b"class 32", p, s, 32, 1, 7);
-    offer_line(b"class 255", p, s, 255, 1, 7);
-    offer_line(b"bank 8", p, s, 1, 1, 8);
-    offer_line(b"bank 16", p, s, 1, 1, 16);
-    offer_line(b"bank 255", p, s, 1, 1, 255);
-    offer_line(b"kind 2", p, s, 1, 2, 7);
-    offer_line(b"kind 4", p, s, 1, 4, 7);
-    offer_line(b"kind 255", p, s, 1, 255, 7);
+    offer_line(name, p, s, class, kind, bank);
+}
+
+// Rows 9 and 10: the highest class, bank and kind, what lies above them, and what a word's fields would not hold.
+pub(crate) fn bounds() {
+    fresh_line(b"class 1, a write, bank 7", 1, 1, 7);
+    fresh_line(b"class 2 where n = 2", 2, 1, 7);
+    fresh_line(b"class 16", 16, 1, 7);
+    fresh_line(b"class 32", 32, 1, 7);
+    fresh_line(b"class 255", 255, 1, 7);
+    fresh_line(b"bank 8", 1, 1, 8);
+    fresh_line(b"bank 16", 1, 1, 16);
+    fresh_line(b"bank 255", 1, 1, 255);
+    fresh_line(b"kind 2", 1, 2, 7);
+    fresh_line(b"kind 4", 1, 4, 7);
+    fresh_line(b"kind 255", 1, 255, 7);
 }
 
 // Eight requests of class 0 wait.
@@ -210,13 +201,13 @@ fn full(p: Policy) -> State {
     after(p, s, &trace)
 }
 
-pub fn with_cycle(s: State, cycle: u32) -> State {
+pub(crate) fn with_cycle(s: State, cycle: u32) -> State {
     let mut changed = s;
     changed.cycle = cycle;
     changed
 }
 
-pub fn with_owner(s: State, owner: usize) -> State {
+pub(crate) fn with_owner(s: State, owner: usize) -> State {
     let mut turns = s.turns;
     turns.owner = owner;
     let mut changed = s;
@@ -225,7 +216,7 @@ pub fn with_owner(s: State, owner: usize) -> State {
 }
 
 // Offers 13, 9, 10, 11 and ticks 13, 12, each where the later ones apply too.
-pub fn order() {
+pub(crate) fn order() {
     let p = printed_policy();
     let s = full(p);
     let broken = with_owner(s, 2);
@@ -246,7 +237,7 @@ pub fn order() {
 }
 
 // The eighth offer of a class is taken and the ninth is not, each class by itself; after an activate one more is taken.
-pub fn queue_limit() {
+pub(crate) fn queue_limit() {
     let p = printed_policy();
     let s = fresh(p);
     let trace = [
@@ -271,7 +262,7 @@ pub fn queue_limit() {
 }
 
 // Ticks up to the last: four are left, and the second of them starts an epoch.
-pub fn last_cycles() {
+pub(crate) fn last_cycles() {
     let p = printed_policy();
     let s = fresh(p);
     let near = with_cycle(s, 16777211);
@@ -280,7 +271,7 @@ pub fn last_cycles() {
 }
 
 // Two classes over two epochs and more: class 0's dead time is elided, and class 1's is elided in one turn and kept in the next.
-pub fn chain() {
+pub(crate) fn chain() {
     let p = printed_policy();
     let s = fresh(p);
     let trace = [
@@ -325,7 +316,7 @@ pub fn chain() {
 }
 
 // Four classes over nine turns: some wait, some come late and one number is no class, with both kinds and several banks.
-pub fn diamond() {
+pub(crate) fn diamond() {
     let p = diamond_policy();
     let s = fresh(p);
     let trace = [

@@ -50,7 +50,7 @@ fn fork_file() -> [u8; 37] {
     ]
 }
 
-fn fork() -> Policy {
+pub(crate) fn fork() -> Policy {
     let file = fork_file();
     let reading = policy::file::read(&file);
     let p = reading.policy;
@@ -58,8 +58,9 @@ fn fork() -> Policy {
 }
 
 // A state at cycle 3 with two columns due at 3 and 5, two responses due at 6 and 8, and a waiting request of class 1.
-fn busy(p: Policy) -> State {
+pub(crate) fn busy() -> State {
     let trace = [0x80000001, 0x80000002, 0x81000003, 0, 0, 0];
+    let p = fork();
     let s = calls::fresh(p);
     calls::after(p, s, &trace)
 }
@@ -78,6 +79,12 @@ fn both(name: &[u8], p: Policy, s: State) {
     files::words(name);
     files::words(b", tick: ");
     let _ = calls::ticked(p, s);
+}
+
+// The same, of a state of the fork.
+fn of_fork(name: &[u8], s: State) {
+    let p = fork();
+    both(name, p, s);
 }
 
 fn with_classes(s: State, classes: usize) -> State {
@@ -106,7 +113,7 @@ fn with_pointer(s: State, class: usize, pointer: usize) -> State {
     changed
 }
 
-fn with_length(s: State, class: usize, length: usize) -> State {
+pub(crate) fn with_length(s: State, class: usize, length: usize) -> State {
     let mut queues = s.queues;
     if class < 16 {
         queues.lengths[class] = length;
@@ -180,128 +187,103 @@ fn with_last(s: State, activate: u32) -> State {
 }
 
 // The class count, the owner and the cycle.
-pub fn counts() {
-    let p = fork();
-    let s = busy(p);
-    both(b"a sound state", p, s);
-    both(b"one class less", p, with_classes(s, 2));
-    both(b"one class more", p, with_classes(s, 4));
-    both(b"no classes", p, with_classes(s, 0));
-    both(b"an owner not below n", p, calls::with_owner(s, 3));
-    let idle = calls::fresh(p);
-    both(b"a cycle of 16777216", p, calls::with_cycle(idle, 16777216));
-    both(b"the highest cycle", p, calls::with_cycle(idle, 4294967295));
+pub(crate) fn counts() {
+    let s = busy();
+    of_fork(b"a sound state", s);
+    of_fork(b"one class less", with_classes(s, 2));
+    of_fork(b"one class more", with_classes(s, 4));
+    of_fork(b"no classes", with_classes(s, 0));
+    of_fork(b"an owner not below n", calls::with_owner(s, 3));
+    let idle = calls::fresh(fork());
+    of_fork(b"a cycle of 16777216", calls::with_cycle(idle, 16777216));
+    of_fork(b"the highest cycle", calls::with_cycle(idle, 4294967295));
 }
 
 // Pointers and turns left.
-pub fn turns() {
-    let p = fork();
-    let s = busy(p);
-    both(b"a mark above the children", p, with_pointer(s, 0, 3));
-    both(
-        b"a mark where there are no children",
-        p,
-        with_pointer(s, 1, 1),
-    );
-    both(b"turns left above the cap of 0", p, with_left(s, 0, 3));
-    both(b"turns left above the cap of 1", p, with_left(s, 1, 5));
-    both(b"turns left above the cap of 2", p, with_left(s, 2, 5));
+pub(crate) fn turns() {
+    let s = busy();
+    of_fork(b"a mark above the children", with_pointer(s, 0, 3));
+    of_fork(b"a mark where there are no children", with_pointer(s, 1, 1));
+    of_fork(b"turns left above the cap of 0", with_left(s, 0, 3));
+    of_fork(b"turns left above the cap of 1", with_left(s, 1, 5));
+    of_fork(b"turns left above the cap of 2", with_left(s, 2, 5));
 }
 
 // Eight requests of class 0 wait, all of them sound.
-fn eight(p: Policy, s: State) -> State {
+pub(crate) fn eight(s: State) -> State {
     let trace = [0x80170005u32; 8];
+    let p = fork();
     calls::after(p, s, &trace)
 }
 
 // The queues' lengths and their words.
-pub fn waiting() {
-    let p = fork();
-    let s = busy(p);
-    let long = eight(p, s);
-    both(b"a queue length of 9", p, with_length(long, 0, 9));
-    both(
+pub(crate) fn waiting() {
+    let s = busy();
+    let long = eight(s);
+    of_fork(b"a queue length of 9", with_length(long, 0, 9));
+    of_fork(
         b"a waiting request of no class",
-        p,
         with_waiting(s, 0x83000000),
     );
-    both(
-        b"a waiting request of bank 8",
-        p,
-        with_waiting(s, 0x82080000),
-    );
-    both(
-        b"a waiting request of kind 2",
-        p,
-        with_waiting(s, 0x82200000),
-    );
-    both(
+    of_fork(b"a waiting request of bank 8", with_waiting(s, 0x82080000));
+    of_fork(b"a waiting request of kind 2", with_waiting(s, 0x82200000));
+    of_fork(
         b"a request in another class's queue",
-        p,
         with_waiting(s, 0x81000000),
     );
     let second = with_length(with_slot(s, 9, 0x80000000), 1, 2);
-    both(b"the second of a queue is wrong", p, second);
+    of_fork(b"the second of a queue is wrong", second);
     let eighth = with_slot(long, 1, 0x80080000);
-    both(b"the eighth of a queue is wrong", p, eighth);
+    of_fork(b"the eighth of a queue is wrong", eighth);
 }
 
 // The last activates, of all and of a bank.
-pub fn activates() {
-    let p = fork();
-    let s = busy(p);
-    both(b"a last activate at the cycle", p, with_last(s, 8));
-    both(b"a last activate after the cycle", p, with_last(s, 203));
-    both(
+pub(crate) fn activates() {
+    let s = busy();
+    of_fork(b"a last activate at the cycle", with_last(s, 8));
+    of_fork(b"a last activate after the cycle", with_last(s, 203));
+    of_fork(
         b"a last activate of bank 7 at the cycle",
-        p,
         with_bank(s, 7, 9),
     );
-    both(
+    of_fork(
         b"a last activate of bank 0 after the cycle",
-        p,
         with_bank(s, 0, 202),
     );
 }
 
 // The pending columns.
-pub fn columns() {
-    let p = fork();
-    let s = busy(p);
-    both(b"a column of no class", p, with_column(s, 3, 0x83000000));
-    both(b"a column of bank 8", p, with_column(s, 5, 0x80080000));
-    both(b"a column of kind 2", p, with_column(s, 5, 0x80200000));
+pub(crate) fn columns() {
+    let s = busy();
+    of_fork(b"a column of no class", with_column(s, 3, 0x83000000));
+    of_fork(b"a column of bank 8", with_column(s, 5, 0x80080000));
+    of_fork(b"a column of kind 2", with_column(s, 5, 0x80200000));
     let without_first = with_column(s, 3, 0);
     let without_second = with_column(s, 5, 0);
-    both(
+    of_fork(
         b"a column due before the next tick",
-        p,
         with_column(without_first, 2, 0x80000001),
     );
-    both(
+    of_fork(
         b"a column due its delay after it",
-        p,
         with_column(without_second, 6, 0x80000002),
     );
 }
 
 // The pending responses.
-pub fn responses() {
-    let p = fork();
-    let s = busy(p);
-    both(b"an answer of no class", p, with_response(s, 6, 0x90000000));
-    both(b"an answer of bank 8", p, with_response(s, 8, 0x80080000));
-    both(b"an answer of kind 2", p, with_response(s, 6, 0x80200000));
+pub(crate) fn responses() {
+    let s = busy();
+    of_fork(b"an answer of no class", with_response(s, 6, 0x90000000));
+    of_fork(b"an answer of bank 8", with_response(s, 8, 0x80080000));
+    of_fork(b"an answer of kind 2", with_response(s, 6, 0x80200000));
     let without_first = with_response(s, 6, 0);
     let without_second = with_response(s, 8, 0);
-    both(
+    of_fork(
         b"an answer due before the next tick",
-        p,
         with_response(without_first, 2, 0x80000001),
     );
-    both(
+    of_fork(
         b"an answer due its delay after it",
-        p,
         with_response(without_second, 9, 0x80000002),
     );
 }
@@ -314,7 +296,7 @@ fn with_rows(p: Policy, first: u16, second: u16, third: u16) -> Policy {
     changed
 }
 
-fn with_epoch(p: Policy, epoch: u32) -> Policy {
+pub(crate) fn with_epoch(p: Policy, epoch: u32) -> Policy {
     let mut changed = p;
     changed.epoch = epoch;
     changed
@@ -363,9 +345,9 @@ fn unfit(name: &[u8], p: Policy, s: State) {
 }
 
 // A policy that 2 to 8 would refuse, or whose stored children or caps are not its order's.
-pub fn policies() {
+pub(crate) fn policies() {
     let p = fork();
-    let s = busy(p);
+    let s = busy();
     unfit(b"a fit policy", p, s);
     let none = of_no_classes();
     unfit(b"a policy of no classes", none, calls::fresh(none));
@@ -384,64 +366,48 @@ pub fn policies() {
 }
 
 // The last numbers in range.
-pub fn inside() {
-    let p = fork();
-    let s = busy(p);
-    both(b"the last owner", p, calls::with_owner(s, 2));
-    both(b"a mark at the children", p, with_pointer(s, 0, 2));
-    both(b"turns left at the cap", p, with_left(s, 0, 2));
-    both(b"a queue length of 8", p, eight(p, s));
-    both(b"a last activate one before the cycle", p, with_last(s, 7));
-    both(
+pub(crate) fn inside() {
+    let s = busy();
+    of_fork(b"the last owner", calls::with_owner(s, 2));
+    of_fork(b"a mark at the children", with_pointer(s, 0, 2));
+    of_fork(b"turns left at the cap", with_left(s, 0, 2));
+    of_fork(b"a queue length of 8", eight(s));
+    of_fork(b"a last activate one before the cycle", with_last(s, 7));
+    of_fork(
         b"a last activate of bank 7 one before the cycle",
-        p,
         with_bank(s, 7, 7),
     );
-    both(b"no last activate of all", p, with_last(s, 0));
+    of_fork(b"no last activate of all", with_last(s, 0));
     let column = with_column(with_column(s, 3, 0), 4, 0x80000001);
-    both(b"a column due one less than its delay after", p, column);
+    of_fork(b"a column due one less than its delay after", column);
     let next = with_response(with_response(s, 6, 0), 3, 0x80000001);
-    both(b"an answer due at the next tick", p, next);
+    of_fork(b"an answer due at the next tick", next);
 }
 
 // Numbers of a state that only this representation has. Document 01 names none of them, and the model's states have no place for them.
-pub fn stored() {
-    let p = fork();
-    let s = busy(p);
-    both(b"a queue that starts at place 8", p, with_head(s, 2, 8));
-    both(
+pub(crate) fn stored() {
+    let s = busy();
+    of_fork(b"a queue that starts at place 8", with_head(s, 2, 8));
+    of_fork(
         b"a waiting word that is no offer",
-        p,
         with_waiting(s, 0x02000000),
     );
-    both(
-        b"a waiting word with bit 22",
-        p,
-        with_waiting(s, 0x82400000),
-    );
-    both(
+    of_fork(b"a waiting word with bit 22", with_waiting(s, 0x82400000));
+    of_fork(
         b"a column's word with bit 30",
-        p,
         with_column(s, 3, 0xC0000001),
     );
-    both(
-        b"a kind of a last activate that was not",
-        p,
-        with_last(s, 1),
-    );
-    both(
+    of_fork(b"a kind of a last activate that was not", with_last(s, 1));
+    of_fork(
         b"a mark of a number that is no class",
-        p,
         with_pointer(s, 3, 1),
     );
-    both(
+    of_fork(
         b"turns left of a number that is no class",
-        p,
         with_left(s, 15, 1),
     );
-    both(
+    of_fork(
         b"a queue of a number that is no class",
-        p,
         with_length(with_slot(s, 24, 0x83000000), 3, 1),
     );
 }

@@ -3,7 +3,7 @@
 use libc::STDOUT_FILENO;
 
 // Document 01's file: class 0 below class 1, E = 3, minimums 0 and 2.
-pub fn printed() -> [u8; 34] {
+pub(crate) fn printed() -> [u8; 34] {
     [
         3,
         1,
@@ -204,12 +204,18 @@ fn sixteen() -> [u8; 76] {
     ]
 }
 
-pub fn words(text: &[u8]) {
+pub(crate) fn words(text: &[u8]) {
     io::write_all(STDOUT_FILENO, text);
 }
 
-pub fn number(n: u64) {
+pub(crate) fn number(n: u64) {
     io::print_decimal(STDOUT_FILENO, n);
+}
+
+// A number after a space.
+pub(crate) fn spaced(n: u32) {
+    words(b" ");
+    number(n as u64);
 }
 
 // What reading a file answers, and the line's end.
@@ -240,7 +246,7 @@ fn changed(name: &[u8], at: usize, value: u8) {
 }
 
 // The table's examples, and the bounds that it names.
-pub fn examples() {
+pub(crate) fn examples() {
     let none = [0u8; 1];
     line(b"the empty file", &none[..0]);
     changed(b"n = 17", 16, 17);
@@ -263,7 +269,7 @@ pub fn examples() {
 }
 
 // The shortest file and the longest.
-pub fn sizes() {
+pub(crate) fn sizes() {
     let shortest = single();
     line(b"a file of 31 bytes", &shortest);
     let longest = sixteen();
@@ -275,12 +281,12 @@ fn cut_at(length: usize) {
     words(b"cut to ");
     number(length as u64);
     if length <= 34 {
-        answer(&file[..length]);
+        answer(&file[0..length]);
     }
 }
 
 // Document 01's file, cut short at every length.
-pub fn every_cut() {
+pub(crate) fn every_cut() {
     let mut length = 0;
     while length <= 34 {
         cut_at(length);
@@ -312,7 +318,7 @@ fn changes_at(at: usize) {
 }
 
 // Document 01's file, each byte of it set to each of twelve values.
-pub fn every_change() {
+pub(crate) fn every_change() {
     let mut at = 0;
     while at < 34 {
         changes_at(at);

@@ -4,6 +4,7 @@
 mod calls;
 mod clauses;
 mod files;
+mod runs;
 mod same;
 
 fn main() {
@@ -26,4 +27,12 @@ fn main() {
     clauses::policies();
     clauses::inside();
     clauses::stored();
+    runs::malformed();
+    runs::refused();
+    runs::ended();
+    runs::last_cycles();
+    runs::room();
+    runs::empty();
+    runs::out_of_range();
+    runs::pieces();
 }

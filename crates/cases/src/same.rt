@@ -5,7 +5,7 @@ use scheduler::Queues;
 use scheduler::State;
 use scheduler::Turns;
 
-fn same_words(a: &[u32], b: &[u32]) -> bool {
+pub(crate) fn same_words(a: &[u32], b: &[u32]) -> bool {
     if a.len() != b.len() {
         return false;
     }
@@ -66,7 +66,7 @@ fn same_flight(a: Flight, b: Flight) -> bool {
         & same_words(&banks, &other_banks)
 }
 
-pub fn same_state(a: State, b: State) -> bool {
+pub(crate) fn same_state(a: State, b: State) -> bool {
     let queues = a.queues;
     let turns = a.turns;
     let flight = a.flight;
@@ -81,7 +81,7 @@ pub fn same_state(a: State, b: State) -> bool {
 }
 
 // The state of all zeros, which asking a fresh one of an unfit policy hands back.
-pub fn zeros() -> State {
+pub(crate) fn zeros() -> State {
     let queues = Queues {
         slots: [0u32; 128],
         heads: [0usize; 16],

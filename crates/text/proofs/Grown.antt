@@ -2,7 +2,7 @@
 -- Assumes nothing.
 use mathlib.Core.Path.{_≡_, refl, ap, _∙_}
 use mathlib.Core.List.{List, [], _∷_, _++_}
-use Prim.Native.Nat.{ℕ, zero, suc, _+_, _*_, _/_, _%_, _^_, _≤_}
+use Prim.Native.Nat.{ℕ, zero, suc, _+_, _*_, _/_, _%_, _^_, _≤_, _<_}
 use native.Mathlib.Numerals.{add-one}
 use native.Mathlib.Omega.{arith}
 use lib.ListN.{length, getD, drop, set, length-append}
@@ -13,36 +13,44 @@ use Rattle.policy.proofs.Stores.{sets-append, written-more}
 
 -- ---- lines
 
--- nine stores in a row are a run
-nine : (l : List ℕ) (i a b c d e f g h s : ℕ)
-    → set (set (set (set (set (set (set (set (set l i a) (i + 1) b) (i + 2) c) (i + 3) d) (i + 4) e) (i + 5) f) (i + 6) g) (i + 7) h) (i + 8) s
-    ≡ sets l i (a ∷ b ∷ c ∷ d ∷ e ∷ f ∷ g ∷ h ∷ s ∷ [])
-nine l i a b c d e f g h s =
-    let e1 : i + 1 ≡ suc i = omega arith in
-    let e2 : i + 2 ≡ suc (suc i) = omega arith in
-    let e3 : i + 3 ≡ suc (suc (suc i)) = omega arith in
-    let e4 : i + 4 ≡ suc (suc (suc (suc i))) = omega arith in
-    let e5 : i + 5 ≡ suc (suc (suc (suc (suc i)))) = omega arith in
-    let e6 : i + 6 ≡ suc (suc (suc (suc (suc (suc i))))) = omega arith in
-    let e7 : i + 7 ≡ suc (suc (suc (suc (suc (suc (suc i)))))) = omega arith in
-    let e8 : i + 8 ≡ suc (suc (suc (suc (suc (suc (suc (suc i))))))) = omega arith in
-    rw (e8, e7, e6, e5, e4, e3, e2, e1)
+-- a run behind a run
+joined : (vs ws l : List ℕ) (i : ℕ) {before after : List ℕ}
+    → before ≡ sets l i vs
+    → after ≡ sets before (i + length vs) ws
+    → after ≡ sets l i (vs ++ ws)
+joined vs ws l i b a = a ∙ ap (λ (q : List ℕ). sets q (i + length vs) ws) b ∙ sets-append vs ws l i
 
--- the stores of a number and its sign
-pub number-put : (l : List ℕ) (i n s : ℕ) {a b c d e f g h : ℕ}
-    → a ≡ digit (n / 16 ^ 7 % 16)
-    → b ≡ digit (n / 16 ^ 6 % 16)
-    → c ≡ digit (n / 16 ^ 5 % 16)
-    → d ≡ digit (n / 16 ^ 4 % 16)
-    → e ≡ digit (n / 16 ^ 3 % 16)
-    → f ≡ digit (n / 16 ^ 2 % 16)
-    → g ≡ digit (n / 16 % 16)
-    → h ≡ digit (n % 16)
-    → set (set (set (set (set (set (set (set (set l i a) (i + 1) b) (i + 2) c) (i + 3) d) (i + 4) e) (i + 5) f) (i + 6) g) (i + 7) h) (i + 8) s
-    ≡ sets l i (hexOf n ++ (s ∷ []))
+-- the four pairs of a number and its sign
+pub number-put : (t l : List ℕ) (i n s : ℕ) {la lb lc ld : List ℕ}
+    → ((k : ℕ) → k < 256 → (getD t (2 * k) 0 ≡ digit (k / 16)) × (getD t (2 * k + 1) 0 ≡ digit (k % 16)))
+    → n < 16 ^ 8
+    → la ≡ sets l i (getD t (2 * (n / 16777216)) 0 ∷ getD t (2 * (n / 16777216) + 1) 0 ∷ [])
+    → lb ≡ sets la (i + 2) (getD t (2 * (n / 65536 % 256)) 0 ∷ getD t (2 * (n / 65536 % 256) + 1) 0 ∷ [])
+    → lc ≡ sets lb (i + 4) (getD t (2 * (n / 256 % 256)) 0 ∷ getD t (2 * (n / 256 % 256) + 1) 0 ∷ [])
+    → ld ≡ sets lc (i + 6) (getD t (2 * (n % 256)) 0 ∷ getD t (2 * (n % 256) + 1) 0 ∷ [])
+    → set ld (i + 8) s ≡ sets l i (hexOf n ++ (s ∷ []))
 unfolding hexOf
-number-put l i n s {a} {b} {c} {d} {e} {f} {g} {h} ea eb ec ed ee ef eg eh =
-    nine l i a b c d e f g h s ∙ rw (ea, eb, ec, ed, ee, ef, eg, eh)
+number-put t l i n s {la} {lb} {lc} {ld} pair h ea eb ec ed =
+    let a : List ℕ = digit (n / 16 ^ 7 % 16) ∷ digit (n / 16 ^ 6 % 16) ∷ [] in
+    let b : List ℕ = digit (n / 16 ^ 5 % 16) ∷ digit (n / 16 ^ 4 % 16) ∷ [] in
+    let c : List ℕ = digit (n / 16 ^ 3 % 16) ∷ digit (n / 16 ^ 2 % 16) ∷ [] in
+    let d : List ℕ = digit (n / 16 % 16) ∷ digit (n % 16) ∷ [] in
+    let pa = pair (n / 16777216) (omega arith) in
+    let pb = pair (n / 65536 % 256) (omega arith) in
+    let pc = pair (n / 256 % 256) (omega arith) in
+    let pd = pair (n % 256) (omega arith) in
+    let e7 : n / 16777216 / 16 ≡ n / 16 ^ 7 % 16 = omega arith in
+    let e5 : n / 65536 % 256 / 16 ≡ n / 16 ^ 5 % 16 = omega arith in
+    let e4 : n / 65536 % 256 % 16 ≡ n / 16 ^ 4 % 16 = omega arith in
+    let e3 : n / 256 % 256 / 16 ≡ n / 16 ^ 3 % 16 = omega arith in
+    let e2 : n / 256 % 256 % 16 ≡ n / 16 ^ 2 % 16 = omega arith in
+    let e1 : n % 256 / 16 ≡ n / 16 % 16 = omega arith in
+    let e0 : n % 256 % 16 ≡ n % 16 = omega arith in
+    let one : la ≡ sets l i a = rw (pa .0, pa .1, e7) at ea in
+    let two : lb ≡ sets l i (a ++ b) = joined a b l i one (rw (pb .0, pb .1, e5, e4) at eb) in
+    let three : lc ≡ sets l i (a ++ b ++ c) = joined (a ++ b) c l i two (rw (pc .0, pc .1, e3, e2) at ec) in
+    let four : ld ≡ sets l i (a ++ b ++ c ++ d) = joined (a ++ b ++ c) d l i three (rw (pd .0, pd .1, e1, e0) at ed) in
+    joined (a ++ b ++ c ++ d) (s ∷ []) l i four refl
 
 -- the four runs of a line
 pub line-put : (log l : List ℕ) (i : ℕ) {la lb lc ld : List ℕ}
@@ -52,14 +60,12 @@ pub line-put : (log l : List ℕ) (i : ℕ) {la lb lc ld : List ℕ}
     → ld ≡ sets lc (36 * i + 27) (hexOf (getD log (4 * i + 3) 0) ++ (10 ∷ []))
     → ld ≡ sets l (36 * i) (lineAt log i)
 unfolding hexOf lineOf lineAt
-line-put log l i {la} {lb} {lc} {ld} ea eb ec ed =
+line-put log l i ea eb ec ed =
     let a : List ℕ = hexOf (getD log (4 * i) 0) ++ (32 ∷ []) in
     let b : List ℕ = hexOf (getD log (4 * i + 1) 0) ++ (32 ∷ []) in
     let c : List ℕ = hexOf (getD log (4 * i + 2) 0) ++ (32 ∷ []) in
     let d : List ℕ = hexOf (getD log (4 * i + 3) 0) ++ (10 ∷ []) in
-    let two : lb ≡ sets l (36 * i) (a ++ b) = eb ∙ ap (λ (q : List ℕ). sets q (36 * i + 9) b) ea ∙ sets-append a b l (36 * i) in
-    let three : lc ≡ sets l (36 * i) (a ++ b ++ c) = ec ∙ ap (λ (q : List ℕ). sets q (36 * i + 18) c) two ∙ sets-append (a ++ b) c l (36 * i) in
-    ed ∙ ap (λ (q : List ℕ). sets q (36 * i + 27) d) three ∙ sets-append (a ++ b ++ c) d l (36 * i)
+    joined (a ++ b ++ c) d l (36 * i) (joined (a ++ b) c l (36 * i) (joined a b l (36 * i) ea eb) ec) ed
 
 -- a line is 36 bytes
 pub length-line : (log : List ℕ) (i : ℕ) → length (lineAt log i) ≡ 36

@@ -6,8 +6,9 @@ use Prim.Native.Nat.{ℕ, _-_, _*_, _≤_}
 use native.Mathlib.Omega.{arith}
 use borrow.Author.Needs.{needs}
 use lib.ListN.{length, drop}
-use Rattle.text.specs.Lines.{digits, linesOf, lineCount}
+use Rattle.text.specs.Lines.{digits, digit, linesOf, lineCount}
 use Rattle.text.proofs.Grown.{line-more}
+use Rattle.text.proofs.Pairs.{pairs, pair}
 use Rattle.text.proofs.lines.Statement.{statement}
 use Rattle.text.proofs.lines.Tie as tie
 
@@ -25,8 +26,8 @@ unfolding linesOf
 loop-holds c = (refl, refl, omega arith)
 
 put-line-requires : tie.Need-put-line-requires Inv-loop μ-loop
-unfolding digits
-put-line-requires c κs = (refl, omega arith, omega arith)
+unfolding digits digit pairs
+put-line-requires c κs = (pair, (omega arith, omega arith))
 
 add-i : tie.Need-add-i Inv-loop μ-loop
 add-i c = omega arith

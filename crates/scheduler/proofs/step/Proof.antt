@@ -7,21 +7,18 @@ use borrow.Author.Needs.{needs}
 use Rattle.policy.proofs.Laws.{policy-laws}
 use Rattle.scheduler.specs.Range.{inRange}
 use Rattle.scheduler.specs.Call.{afterTick}
-use Rattle.scheduler.specs.InPlace.{Lent, stateOf}
+use Rattle.scheduler.specs.InPlace.{Lent}
 use Rattle.scheduler.specs.declared.ticking.Moment.{Moment}
 use Rattle.scheduler.specs.declared.Record.{Record}
 use Rattle.scheduler.specs.declared.State.{State}
 use Rattle.scheduler.specs.declared.Ticked.{Ticked}
 use Rattle.scheduler.proofs.Ranged.{ranged}
+use Rattle.scheduler.proofs.Lends.{with-numbers}
 use Rattle.scheduler.proofs.step.Statement.{statement}
 use Rattle.scheduler.proofs.step.Tie as tie
 
 abbrev ticked : Record → State → Ticked
 ticked r s = record { status = 0; state = s; shown = r }
-
--- the state that was given, with these numbers
-abbrev with-numbers : State → Moment → State
-with-numbers s m = stateOf m (s .queues .slots) (s .queues .heads) (s .queues .lengths) (s .turns .left) (s .turns .pointers) (s .flight .columns) (s .flight .responses) (s .flight .banks)
 
 moment-of-requires : tie.Need-moment-of-requires
 moment-of-requires c κs = policy-laws (c .args .p) (ranged (c .args .p) (c .args .s) (c .pre .0) .fit) .timed

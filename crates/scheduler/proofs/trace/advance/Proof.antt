@@ -16,6 +16,7 @@ use Rattle.scheduler.specs.InPlace.{Lent, momentOf, stateOf, written}
 use Rattle.scheduler.specs.declared.ticking.Moment.{Moment}
 use Rattle.scheduler.specs.declared.State.{State}
 use Rattle.scheduler.proofs.Ranged.{ranged}
+use Rattle.scheduler.proofs.Lends.{with-numbers}
 use Rattle.scheduler.proofs.Listed.{answered-in-range, state-more, log-more}
 use Rattle.scheduler.proofs.trace.advance.Statement.{statement}
 use Rattle.scheduler.proofs.trace.advance.Tie as tie
@@ -57,10 +58,6 @@ abbrev μ-loop : tie.MeasureT-loop
 
 moment-of-requires : tie.Need-moment-of-requires Inv-loop μ-loop
 moment-of-requires c κs = let s = c .before .before .before .before .before .before .before .before .before .before .before .before .before .before .before .before in policy-laws (s .args .p) (ranged (s .args .p) (s .args .s) (s .pre .0) .fit) .timed
-
--- the state that was given, with these numbers
-abbrev with-numbers : State → Moment → State
-with-numbers s m = stateOf m (s .queues .slots) (s .queues .heads) (s .queues .lengths) (s .turns .left) (s .turns .pointers) (s .flight .columns) (s .flight .responses) (s .flight .banks)
 
 loop-holds : tie.Need-loop-holds Inv-loop μ-loop
 unfolding stateAfter logOf

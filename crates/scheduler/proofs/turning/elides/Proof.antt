@@ -1,29 +1,19 @@
 -- `scheduler::turning::elides` meets its contract: each branch is the lookahead by the turns left that its test picks, and an epoch is not 0.
 -- Assumes nothing.
-use mathlib.Core.Path.{_≡_, sym, ap, ap₂, subst, _∙_}
+use mathlib.Core.Path.{_≡_, sym, ap, ap₂, _∙_}
 use mathlib.Core.Bool.{Bool, cond}
 use mathlib.Core.List.{List}
-use Prim.Native.Nat.{ℕ, _+_, _%_, _<_}
+use Prim.Native.Nat.{ℕ, _+_, _%_}
 use native.Mathlib.Omega.{arith}
 use borrow.Author.Needs.{needs}
 use borrow.Author.Tests.{eq-eqb, ne-eqb}
 use lib.Dec.{eqb}
 use Rattle.policy.specs.Policy.{least}
 use Rattle.policy.proofs.Laws.{policy-laws}
-use Rattle.scheduler.specs.Climb.{Climbs}
 use Rattle.scheduler.specs.Lookahead.{reaches, nextLeft, elides}
-use Rattle.scheduler.proofs.Ordered.{climbs, least-small}
+use Rattle.scheduler.proofs.Lends.{climbs-lent, bottom-small}
 use Rattle.scheduler.proofs.turning.elides.Statement.{statement}
 use Rattle.scheduler.proofs.turning.elides.Tie as tie
-
--- what the lookahead rests on, of what is lent
-climbs-lent : (c : tie.Start) → Climbs (c .args .rows .now) (c .args .covers .now)
-climbs-lent c =
-    let lent = c .pre .2 in
-    subst (λ (covers : List ℕ). Climbs (c .args .rows .now) covers) (sym (lent .covers-are)) (subst (λ (rows : List ℕ). Climbs rows (c .args .p .covers)) (sym (lent .rows-are)) (climbs (c .args .p) (c .pre .0)))
-
-bottom-small : (c : tie.Start) → c .args .bottom < 16
-bottom-small c = subst (λ (k : ℕ). k < 16) (sym (c .pre .2 .bottom-is)) (least-small (c .args .p) (c .pre .0))
 
 -- the lookahead on what is lent is that on the policy's own
 lent-reaches : (c : tie.Start) (left : List ℕ) → reaches 16 (c .args .rows .now) (c .args .covers .now) left (c .args .pointers .now) (c .args .owner) (c .args .bottom) ≡ reaches 16 (c .args .p .rows) (c .args .p .covers) left (c .args .pointers .now) (c .args .owner) (least (c .args .p))
@@ -44,7 +34,7 @@ rem-if1 : tie.Need-rem-if1
 rem-if1 c = omega (arith, policy-laws (c .before .args .p) (c .before .pre .0) .capped .epoch-bounds .0)
 
 reaches-requires : tie.Need-reaches-requires
-reaches-requires c κs = (climbs-lent (c .before .before), bottom-small (c .before .before))
+reaches-requires c κs = let s = c .before .before in (climbs-lent (s .args .p) (s .pre .0) (s .args .bottom) (s .args .rows .now) (s .args .covers .now) (s .args .caps .now) (s .pre .2), bottom-small (s .args .p) (s .pre .0) (s .args .bottom) (s .args .rows .now) (s .args .covers .now) (s .args .caps .now) (s .pre .2))
 
 returns : tie.Need-returns
 returns c =
@@ -55,7 +45,7 @@ returns c =
     ∙ sym (picked start _ (eq-eqb _ 0 (c .before .if1 .taken)))
 
 reaches-requires-2 : tie.Need-reaches-requires-2
-reaches-requires-2 c κs = (climbs-lent (c .before .before), bottom-small (c .before .before))
+reaches-requires-2 c κs = let s = c .before .before in (climbs-lent (s .args .p) (s .pre .0) (s .args .bottom) (s .args .rows .now) (s .args .covers .now) (s .args .caps .now) (s .pre .2), bottom-small (s .args .p) (s .pre .0) (s .args .bottom) (s .args .rows .now) (s .args .covers .now) (s .args .caps .now) (s .pre .2))
 
 returns-2 : tie.Need-returns-2
 returns-2 c =

@@ -5,12 +5,12 @@ use mathlib.Core.Bool.{Bool}
 use mathlib.Core.List.{List}
 use Prim.Native.Nat.{ℕ, _<_}
 use Rattle.policy.specs.Policy.{least}
-use Rattle.scheduler.specs.Climb.{Climbs}
 use Rattle.scheduler.specs.Traversal.{Reached, tryClass, charge}
 use Rattle.scheduler.specs.Lookahead.{elides}
 use Rattle.scheduler.specs.Step.{leftAtStart, ownedBy, startTurn}
 use Rattle.scheduler.specs.declared.Turns.{Turns}
 use Rattle.scheduler.proofs.Ordered.{climbs, least-small, owner-small}
+use Rattle.scheduler.proofs.Lends.{climbs-lent, bottom-small}
 use Rattle.scheduler.proofs.turning.start_turn.Statement.{statement}
 use Rattle.scheduler.proofs.turning.start_turn.Tie as tie
 
@@ -46,10 +46,7 @@ left-at-start-requires : tie.Need-left-at-start-requires
 left-at-start-requires c κs = (c .before .pre .0, c .before .pre .2 .caps-are)
 
 try-class-requires : tie.Need-try-class-requires
-try-class-requires c κs =
-    let start = c .before .before .before .before in
-    let lent = start .pre .2 in
-    (subst (λ (covers : List ℕ). Climbs (start .args .rows .now) covers) (sym (lent .covers-are)) (subst (λ (rows : List ℕ). Climbs rows (start .args .p .covers)) (sym (lent .rows-are)) (climbs (start .args .p) (start .pre .0))), subst (λ (k : ℕ). k < 16) (sym (lent .bottom-is)) (least-small (start .args .p) (start .pre .0)), start .pre .3)
+try-class-requires c κs = let s = c .before .before .before .before in (climbs-lent (s .args .p) (s .pre .0) (s .args .bottom) (s .args .rows .now) (s .args .covers .now) (s .args .caps .now) (s .pre .2), bottom-small (s .args .p) (s .pre .0) (s .args .bottom) (s .args .rows .now) (s .args .covers .now) (s .args .caps .now) (s .pre .2), s .pre .3)
 
 charge-requires : tie.Need-charge-requires
 charge-requires c κs = owner-here (c .before)

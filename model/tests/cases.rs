@@ -7,6 +7,7 @@ use std::fs;
 use std::path::Path;
 
 use common::*;
+use vigambul_model::extract::extract;
 use vigambul_model::generate::PolicyFields;
 use vigambul_model::policy::Policy;
 use vigambul_model::refusal::Refusal;
@@ -541,9 +542,14 @@ fn single(policy: &Policy, state: &mut State, number: u32) -> [u32; LINE] {
     line.unwrap_or_else(refused_line)
 }
 
+/// The diamond with turns of 4 and E = 4.
+fn quick_diamond() -> Policy {
+    policy(&DIAMOND, 4, &[1; 4], [4, 3, 1, 2, 3, 1, 2, 3, 1, 3])
+}
+
 /// A run over a diamond in one piece, cut in two at every place, and made by single calls.
 fn pieces() -> String {
-    let policy = policy(&DIAMOND, 4, &[1; 4], [4, 3, 1, 2, 3, 1, 2, 3, 1, 3]);
+    let policy = quick_diamond();
     let mut end = fresh(&policy);
     let log = run_on(&policy, &mut end, &FORTY);
     let cuts = (0..=FORTY.len()).map(|place| {
@@ -561,6 +567,147 @@ fn pieces() -> String {
         + &cuts.collect::<String>()
         + &agreement("by single calls", (&end, &log), (&state, &calls.concat()))
 }
+
+/// An extract: its status, its count and the slice after it.
+fn drawn(
+    policy: &Policy,
+    class: usize,
+    list: &[u32],
+    log: &[u32],
+    room: usize,
+) -> (String, Vec<u32>) {
+    let mut out = vec![MARKER; room];
+    let (count, refusal) = extract(policy, class, list, log, &mut out);
+    let status = refusal.map_or(0, Refusal::number);
+    (format!("{status}, count {count}"), out)
+}
+
+/// An extract, and the whole slice on its line.
+fn drawn_whole(policy: &Policy, class: usize, list: &[u32], log: &[u32], room: usize) -> String {
+    let (answer, out) = drawn(policy, class, list, log, room);
+    let out: String = out.iter().map(|number| format!(" {number}")).collect();
+    format!("{answer}, out{out}\n")
+}
+
+/// How an extract is asked for: the class, how many numbers of the trace and of the log, and the room.
+type Asked = (usize, usize, usize, usize);
+
+/// An extract of the first numbers of a trace with the first numbers of a log.
+fn sized(name: &str, policy: &Policy, asked: Asked) -> String {
+    let (class, numbers, length, room) = asked;
+    let list = [0, 0x8110_0008, 0x8001_0007];
+    #[rustfmt::skip]
+    let log = [
+        0, 0x8001_0001, 0x8100_0002, 258, 11, 1, 2, 3, 10, 4, 5, 6, 0, 0, 0, 0,
+    ];
+    let line = drawn_whole(policy, class, &list[..numbers], &log[..length], room);
+    format!("{name}, class {class}, trace of {numbers}, log of {length}, room for {room}: {line}")
+}
+
+/// The extracts under document 01's policy.
+fn under_printed(cases: &[Asked]) -> String {
+    let line = |&asked| sized("two classes", &printed_policy(), asked);
+    cases.iter().map(line).collect()
+}
+
+/// The extracts under document 01's policy with an E of 0.
+fn under_unfit(cases: &[Asked]) -> String {
+    let mut unfit = printed_policy();
+    unfit.epoch = 0;
+    let line = |&asked| sized("two classes, E = 0", &unfit, asked);
+    cases.iter().map(line).collect()
+}
+
+/// Row 16: document 01's example, and room that is short, enough, and more.
+const EXTRACT_ROOM: [Asked; 12] = [
+    (0, 1, 4, 3),
+    (0, 1, 4, 0),
+    (0, 1, 4, 4),
+    (0, 1, 4, 5),
+    (0, 3, 12, 4),
+    (0, 3, 12, 7),
+    (0, 3, 12, 8),
+    (0, 3, 12, 16),
+    (1, 3, 12, 8),
+    (1, 3, 12, 11),
+    (1, 3, 12, 12),
+    (1, 3, 12, 13),
+];
+
+/// Row 17: document 01's example, and other logs that are not four times the trace.
+const EXTRACT_LENGTHS: [Asked; 8] = [
+    (0, 1, 5, 4),
+    (0, 1, 3, 4),
+    (0, 1, 0, 4),
+    (0, 0, 1, 4),
+    (0, 3, 8, 16),
+    (0, 3, 11, 16),
+    (0, 3, 13, 16),
+    (0, 3, 16, 16),
+];
+
+/// Extracts 13, 9, 17, 16: those that get 13, and then those that get 9 and 17, each where later ones
+/// apply too.
+const UNFIT_ORDER: [Asked; 4] = [(2, 1, 5, 3), (2, 1, 4, 4), (0, 1, 3, 4), (0, 1, 4, 3)];
+const EXTRACT_ORDER: [Asked; 5] = [
+    (2, 1, 5, 3),
+    (2, 1, 3, 4),
+    (2, 1, 4, 3),
+    (0, 1, 5, 3),
+    (0, 1, 3, 3),
+];
+
+/// An empty trace, and one of which nothing is kept: a malformed word and an offer of class 1.
+fn nothing_kept() -> String {
+    let dropped = |room| {
+        let line = drawn_whole(&printed_policy(), 0, &[1, 0x8110_0008], &[5; 8], room);
+        format!("nothing kept, class 0, trace of 2, log of 8, room for {room}: {line}")
+    };
+    under_printed(&[(0, 0, 0, 0), (1, 0, 0, 4)]) + &dropped(0) + &dropped(4)
+}
+
+/// What each class of the diamond may see of a log, by lines.
+fn seen(name: &str, list: &[u32], log: &[u32]) -> String {
+    let policy = quick_diamond();
+    let classes = (0..policy.class_count()).map(|class| {
+        let name = format!("{name} seen by class {class}");
+        let (answer, out) = drawn(&policy, class, list, log, log.len());
+        format!("{name}: {answer}\n") + &log_lines(&name, &out)
+    });
+    classes.collect()
+}
+
+/// Trace numbers with log numbers that no run wrote: ticks with turn numbers and words of every class,
+/// of none and with other bits set, malformed words, and offers.
+#[rustfmt::skip]
+const ANY: [(u32, [u32; LINE]); 26] = [
+    (0, [0, 0, 0, 0]),
+    (0, [0, 0x8101_0007, 0x8202_0008, 256]),
+    (0, [0, 0x8212_0009, 0x8100_000A, 512]),
+    (0, [12, 0x9F00_0001, 0, 1]),
+    (0, [0, 0, 0x9F00_0002, 257]),
+    (0, [0, 0xE1C0_0003, 0xE2C0_0004, 5]),
+    (0, [0, 0x62FF_FFFF, 0x61FF_FFFF, 16]),
+    (0, [0, 0x8300_0005, 0x8000_0006, 261]),
+    (0, [0, 0xC300_0007, 5, 272]),
+    (0, [0, 0x8400_0008, 0x8F00_0009, 2]),
+    (0, [0, 0x9000_000A, 0x9100_000B, 259]),
+    (0, [0, 0x1F00_0000, 0x1100_000C, 4]),
+    (0, [0xFFFF_FFFF, 0xFFFF_FFFF, 0xE0FF_FFFF, 0xFFFF_FF01]),
+    (0, [7, 0xC100_0008, 0xC200_0009, 514]),
+    (0, [0, 0x0100_0000, 0x0200_0000, 255]),
+    (0, [0, 0x8000_0000, 0x8300_0000, 17]),
+    (1, [14, 0x8100_0001, 0x8000_0002, 1]),
+    (0xA100_0010, [14, 1, 2, 3]),
+    (0x8000_0011, [0, 0x8300_0003, 0x9F00_0004, 5]),
+    (0x8100_0012, [10, 0x8200_0005, 0x9F00_0006, 512]),
+    (0x813F_0013, [0, 4, 5, 6]),
+    (0x8200_0014, [11, 7, 8, 9]),
+    (0x8300_0015, [0, 10, 11, 12]),
+    (0x8400_0016, [9, 13, 14, 15]),
+    (0x9100_0017, [9, 16, 17, 18]),
+    (0x9F00_0018, [9, 19, 20, 21]),
+];
 
 /// The cases of policy files.
 fn files() -> String {
@@ -597,11 +744,28 @@ fn runs() -> String {
     .concat()
 }
 
+/// The cases of extracts.
+fn extracts() -> String {
+    let (list, lines): (Vec<u32>, Vec<[u32; LINE]>) = ANY.into_iter().unzip();
+    [
+        under_printed(&EXTRACT_ROOM),
+        under_printed(&EXTRACT_LENGTHS),
+        under_printed(&[(2, 1, 4, 4), (16, 1, 4, 4), (4_294_967_295, 1, 4, 4)]),
+        under_unfit(&[(0, 1, 4, 4), (0, 0, 0, 0)]),
+        under_unfit(&UNFIT_ORDER),
+        under_printed(&EXTRACT_ORDER),
+        nothing_kept(),
+        seen("a run", &FORTY, &run_fresh(&quick_diamond(), &FORTY)),
+        seen("any log", &list, &lines.concat()),
+    ]
+    .concat()
+}
+
 #[test]
 fn the_proved_program_answers_as_the_model_does() {
     let stored = Path::new(env!("CARGO_MANIFEST_DIR")).join("../crates/cases/stdout");
     let stored = fs::read_to_string(stored).expect("the stored output of cases");
-    let answers = files() + &calls() + &runs();
+    let answers = files() + &calls() + &runs() + &extracts();
     for (place, (proved, model)) in stored.lines().zip(answers.lines()).enumerate() {
         assert_eq!(proved, model, "line {}", place + 1);
     }
@@ -658,6 +822,37 @@ fn the_cases_meet_every_number_of_runs() {
         assert!(log.split_whitespace().all(|number| number == "7777"));
     }
     assert!(!answers.contains("another"));
+}
+
+/// Extracts meet each of their numbers; a refused one hands back a count of 0 and writes no number.
+#[test]
+fn the_cases_meet_every_number_of_extracts() {
+    let answers = extracts();
+    for number in [0, 9, 13, 16, 17] {
+        let answer = format!(": {number}, count ");
+        assert!(
+            answers.lines().any(|line| line.contains(&answer)),
+            "no extract gets {number}"
+        );
+    }
+    let asked = |line: &&str| line.contains(", count ") && !line.contains(": 0, count ");
+    for line in answers.lines().filter(asked) {
+        let (_, out) = line.split_once(", count 0, out").expect(line);
+        assert!(out.split_whitespace().all(|number| number == "7777"));
+    }
+}
+
+/// Extracts are refused with 13, 9, 17 and 16 in this order, and by each row's cases with its number.
+#[test]
+fn the_cases_of_extracts_are_refused_as_they_are_to_be() {
+    let all = |answers: String, number: u32| {
+        let answer = format!(": {number}, count 0, ");
+        answers.lines().all(|line| line.contains(&answer))
+    };
+    assert!(all(under_printed(&EXTRACT_LENGTHS), 17));
+    assert!(all(under_unfit(&UNFIT_ORDER), 13));
+    assert!(all(under_printed(&EXTRACT_ORDER[..3]), 9));
+    assert!(all(under_printed(&EXTRACT_ORDER[3..]), 17));
 }
 
 /// Every clause's case breaks it, by the model's own range check, and every case inside is taken.

@@ -3,6 +3,7 @@
 
 mod calls;
 mod clauses;
+mod extracts;
 mod files;
 mod runs;
 mod same;
@@ -35,4 +36,11 @@ fn main() {
     runs::empty();
     runs::out_of_range();
     runs::pieces();
+    extracts::room();
+    extracts::lengths();
+    extracts::classes();
+    extracts::order();
+    extracts::empty();
+    extracts::diamond();
+    extracts::any_numbers();
 }

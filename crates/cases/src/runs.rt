@@ -8,7 +8,7 @@ use policy::Policy;
 use scheduler::State;
 
 // What every number of a log is before a run.
-const MARKER: u32 = 7777;
+pub(crate) const MARKER: u32 = 7777;
 
 // The four numbers of a log's line, and the line's end.
 fn line(log: &[u32], at: usize) {
@@ -20,7 +20,7 @@ fn line(log: &[u32], at: usize) {
 }
 
 // A log, four numbers to a line.
-fn lines(name: &[u8], log: &[u32]) {
+pub(crate) fn lines(name: &[u8], log: &[u32]) {
     let mut at = 0;
     while at < log.len() / 4 {
         calls::label(name, at);
@@ -30,7 +30,7 @@ fn lines(name: &[u8], log: &[u32]) {
 }
 
 // The numbers of a log, one after the other.
-fn numbers(log: &[u32]) {
+pub(crate) fn numbers(log: &[u32]) {
     let mut at = 0;
     while at < log.len() {
         files::spaced(log[at]);
@@ -211,7 +211,7 @@ pub(crate) fn out_of_range() {
 }
 
 // The diamond with turns of 4 and E = 4.
-fn quick_diamond() -> Policy {
+pub(crate) fn quick_diamond() -> Policy {
     let mut file = calls::diamond_file();
     file[25] = 4;
     file[30] = 4;
@@ -221,7 +221,7 @@ fn quick_diamond() -> Policy {
 }
 
 // Forty numbers: offers of every class, refusals of each kind that a run goes on after but 12, and ticks over an epoch's end.
-fn forty() -> [u32; 40] {
+pub(crate) fn forty() -> [u32; 40] {
     [
         0x80000001,
         0x80110002,

@@ -153,7 +153,9 @@ impl Controller {
     }
 
     /// One trace number's four log numbers.
-    #[inline]
+    // Always inlined: handed back through memory, the four numbers are stored one by one and read
+    // as one, which costs more than the tick itself.
+    #[inline(always)]
     pub fn call(&mut self, number: u32) -> [u32; LINE] {
         if number == 0 {
             self.tick()
@@ -188,7 +190,7 @@ impl Controller {
         0
     }
 
-    #[inline]
+    #[inline(always)]
     fn tick(&mut self) -> [u32; LINE] {
         let cycle = self.cycle;
         if cycle >= LAST_CYCLE {

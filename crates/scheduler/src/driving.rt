@@ -41,11 +41,9 @@ fn gaps_met(timing: Timing, last: u32, of_bank: u32, kind: u32, cycle: u32) -> b
     requires { ⌜ TimingLaws timing × (kind < 2) × (cycle < 16777215) ⌝ }
     ensures { λ r. ⌜ r ≡ gapsMetBy timing last «of_bank» kind cycle ⌝ }
 {
-    let gaps = timing.gaps;
-    let bank = timing.bank;
     let after = (2 * (last % 2) + kind) as usize;
     let same = (of_bank % 2) as usize;
-    gap_met(last, gaps[after], cycle) & gap_met(of_bank, bank[same], cycle)
+    gap_met(last, timing.gaps[after], cycle) & gap_met(of_bank, timing.bank[same], cycle)
 }
 
 // The owner may activate before the dead time, or at all offsets if it is elided.

@@ -224,7 +224,8 @@ pub fn offer(p: Policy, s: State, r: Request) -> Offered
     let mut slots = before.slots;
     let heads = before.heads;
     let mut lengths = before.lengths;
-    let status = queueing::offer(s.classes, &mut slots, &heads, &mut lengths, r);
+    let word = words::word_of(r);
+    let status = queueing::offer(s.classes, &mut slots, &heads, &mut lengths, r, word);
     let queues = Queues {
         slots,
         heads,

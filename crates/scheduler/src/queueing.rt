@@ -3,6 +3,7 @@
 ghost use mathlib.Core.Path.{_≡_};
 ghost use Prim.Native.Nat.{ℕ, _+_, _-_, _%_, _≤_, _<_};
 ghost use lib.ListN.{getD, set};
+ghost use Rattle.scheduler.specs.Word.{wordOf};
 ghost use Rattle.scheduler.specs.Queue.{place, enqueue, offerStatus, queuesAfter};
 use super::Request;
 use super::words;
@@ -40,15 +41,16 @@ pub(crate) fn dequeue(heads: &mut [usize; 16], lengths: &mut [usize; 16], class:
     lengths[class] = lengths[class] - 1;
 }
 
-// An offer on queues in range: 9, 10 and 11 in that order, or 0 where it is taken and goes to the end of its class's queue.
+// An offer, handed with its word, on queues in range: 9, 10 and 11 in that order, or 0 where it is taken and goes to the end of its class's queue.
 pub(crate) fn offer(
     classes: usize,
     slots: &mut [u32; 128],
     heads: &[usize; 16],
     lengths: &mut [usize; 16],
     r: Request,
+    word: u32,
 ) -> u32
-    requires { ⌜ (classes ≤ 16) × ((c : ℕ) → c < 16 → getD (now heads) c 0 < 8) ⌝ }
+    requires { ⌜ (classes ≤ 16) × ((c : ℕ) → c < 16 → getD (now heads) c 0 < 8) × (word ≡ wordOf r) ⌝ }
     ensures { λ status. ⌜ (status ≡ offerStatus classes (now (lengths .entry)) r) × (record { slots = now (slots .exit); heads = now (heads .entry); lengths = now (lengths .exit) } ≡ queuesAfter classes (record { slots = now (slots .entry); heads = now (heads .entry); lengths = now (lengths .entry) }) r) ⌝ }
 {
     if !words::class_fits(classes, r) {
@@ -61,6 +63,6 @@ pub(crate) fn offer(
     if 8 <= lengths[class] {
         return 11;
     }
-    enqueue(slots, heads, lengths, class, words::word_of(r));
+    enqueue(slots, heads, lengths, class, word);
     0
 }

@@ -108,7 +108,7 @@ fn call_at(
             after.moment
         }
         Call::Offer(r) => {
-            let status = queueing::offer(m.classes, slots, heads, lengths, r);
+            let status = queueing::offer(m.classes, slots, heads, lengths, r, word);
             write(log, at, status, 0, 0, 0);
             m
         }

@@ -35,20 +35,23 @@ returns c =
     let a = c .before .before .args in
     sym (on-false (inRange (a .p) (a .s)) (offerOn (a .s) (a .r)) (record { status = 13; state = a .s }) (sym (c .before .in-range .ensures) ∙ not-true _ (c .if1 .taken)))
 
+word-of-requires : tie.Need-word-of-requires
+word-of-requires c κs = search needs
+
 offer-requires : tie.Need-offer-requires
 unfolding headOf
 offer-requires c κs =
-    let a = c .before .before .before .before .before .before .before .before .before .args in
-    let r = ranged (a .p) (a .s) (taken (c .before .before .before .before .before .before .before)) in
+    let a = c .before .before .before .before .before .before .before .before .before .before .args in
+    let r = ranged (a .p) (a .s) (taken (c .before .before .before .before .before .before .before .before)) in
     let few = policy-laws (a .p) (r .fit) .order .classes-few .1 in
-    (omega (arith, r .same-count), λ k l. r .queue k l .in-ring)
+    (omega (arith, r .same-count), λ k l. r .queue k l .in-ring, c .before .before .before .word-of .ensures)
 
 returns-2 : tie.Need-returns-2
 unfolding offer offerOn
 returns-2 c =
-    let a = c .before .before .before .before .before .before .before .before .before .before .before .before .args in
+    let a = c .before .before .before .before .before .before .before .before .before .before .before .before .before .args in
     ap₂ (offered (a .s)) (c .before .before .offer .ensures .0) (c .before .before .offer .ensures .1)
-    ∙ sym (on-true (inRange (a .p) (a .s)) (offerOn (a .s) (a .r)) (record { status = 13; state = a .s }) (taken (c .before .before .before .before .before .before .before .before .before .before)))
+    ∙ sym (on-true (inRange (a .p) (a .s)) (offerOn (a .s) (a .r)) (record { status = 13; state = a .s }) (taken (c .before .before .before .before .before .before .before .before .before .before .before)))
 
 pub offer-spec : {M : Type 1} → statement M
-offer-spec = tie.close (tie.spec in-range-requires returns offer-requires returns-2)
+offer-spec = tie.close (tie.spec in-range-requires returns word-of-requires offer-requires returns-2)

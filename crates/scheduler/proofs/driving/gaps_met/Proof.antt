@@ -22,12 +22,12 @@ cast-same c = search needs
 mul-gap-met : tie.Need-mul-gap-met
 mul-gap-met c = search needs
 
-array-read-gap-met : tie.Need-array-read-gap-met
-array-read-gap-met c = search needs
+element-copy-out-gap-met : tie.Need-element-copy-out-gap-met
+element-copy-out-gap-met c = search needs
 
 gap-met-requires : tie.Need-gap-met-requires
 gap-met-requires c κs =
-    let start = c .before .before in
+    let start = c .before in
     let laws = start .pre .0 in
     let at : 2 * (start .args .last % 2) + start .args .kind < 4 = omega arith in
     (omega (arith, laws .gaps-bounds (2 * (start .args .last % 2) + start .args .kind) at .1, laws .dead-bounds .1), start .pre .2)
@@ -35,8 +35,8 @@ gap-met-requires c κs =
 mul-gap-met-2 : tie.Need-mul-gap-met-2
 mul-gap-met-2 c = search needs
 
-array-read-gap-met-2 : tie.Need-array-read-gap-met-2
-array-read-gap-met-2 c = search needs
+element-copy-out-gap-met-2 : tie.Need-element-copy-out-gap-met-2
+element-copy-out-gap-met-2 c = search needs
 
 gap-met-requires-2 : tie.Need-gap-met-requires-2
 gap-met-requires-2 c κs =
@@ -48,7 +48,7 @@ gap-met-requires-2 c κs =
 
 returns : tie.Need-returns
 unfolding gapsMetBy
-returns c = rw (c .gap-met2 .ensures, c .before .gap-met .ensures)
+returns c = rw (c .gap-met2 .ensures, c .before .before .gap-met .ensures)
 
 pub gaps-met-spec : {M : Type 1} → statement M
 gaps-met-spec =
@@ -59,9 +59,9 @@ gaps-met-spec =
     cast-after
     cast-same
     mul-gap-met
-    array-read-gap-met
+    element-copy-out-gap-met
     gap-met-requires
     mul-gap-met-2
-    array-read-gap-met-2
+    element-copy-out-gap-met-2
     gap-met-requires-2
     returns)

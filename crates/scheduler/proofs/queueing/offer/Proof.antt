@@ -77,21 +77,18 @@ returns-3 c =
     let status : 11 ≡ offerStatus (s .args .classes) (s .args .lengths .now) (s .args .r) = rw (fits (c .before .before .before .before .before), right (c .before .before .before), le-ltb _ 8 (c .if3 .taken)) in
     (status, refused (s .args .classes) (queues-of (c .before .before .before .before .before .before .before)) (s .args .r) 11 status refl)
 
-word-of-requires : tie.Need-word-of-requires
-word-of-requires c κs = search needs
-
 enqueue-requires : tie.Need-enqueue-requires
-enqueue-requires c κs = (small (c .before .before .before .before .before .before .before .before), c .before .before .before .before .before .before .before .before .before .before .pre .1 (c .before .before .before .before .before .before .before .before .before .before .args .r .class) (small (c .before .before .before .before .before .before .before .before)), c .before .before .before .if3 .left)
+enqueue-requires c κs = (small (c .before .before .before .before .before .before .before), c .before .before .before .before .before .before .before .before .before .pre .1 (c .before .before .before .before .before .before .before .before .before .args .r .class) (small (c .before .before .before .before .before .before .before)), c .before .before .if3 .left)
 
 returns-4 : tie.Need-returns-4
 unfolding offerStatus
 returns-4 c =
-    let s = c .before .before .before .before .before .before .before .before .before .before .before in
-    let status : 0 ≡ offerStatus (s .args .classes) (s .args .lengths .now) (s .args .r) = rw (fits (c .before .before .before .before .before .before .before .before .before), right (c .before .before .before .before .before .before .before), lt-ltb _ 8 (c .before .before .before .before .if3 .left)) in (
+    let s = c .before .before .before .before .before .before .before .before .before .before in
+    let status : 0 ≡ offerStatus (s .args .classes) (s .args .lengths .now) (s .args .r) = rw (fits (c .before .before .before .before .before .before .before .before), right (c .before .before .before .before .before .before), lt-ltb _ 8 (c .before .before .before .if3 .left)) in (
       status,
       c .enqueue .ensures
-          ∙ ap (enqueue (queues-of (c .before .before .before .before .before .before .before .before .before .before .before)) (s .args .r .class)) (c .before .word-of .ensures)
-          ∙ taken (s .args .classes) (queues-of (c .before .before .before .before .before .before .before .before .before .before .before)) (s .args .r) status,
+          ∙ ap (enqueue (queues-of s) (s .args .r .class)) (s .pre .2)
+          ∙ taken (s .args .classes) (queues-of s) (s .args .r) status,
     )
 
 pub offer-spec : {M : Type 1} → statement M
@@ -106,6 +103,5 @@ offer-spec =
     mul-if3
     element-copy-out-if3
     returns-3
-    word-of-requires
     enqueue-requires
     returns-4)

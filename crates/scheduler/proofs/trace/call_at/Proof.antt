@@ -16,7 +16,7 @@ use Rattle.scheduler.specs.declared.Queues.{Queues}
 use Rattle.scheduler.specs.declared.State.{State}
 use Rattle.scheduler.specs.declared.Ticked.{Ticked}
 use Rattle.scheduler.proofs.Ranged.{ranged}
-use Rattle.scheduler.proofs.Answers.{offer-is, tick-is, tick-late, ticked, offered, called-tick, called-offer, called-malformed}
+use Rattle.scheduler.proofs.Answers.{offer-is, tick-is, tick-late, ticked, offered, called-tick, called-offer, called-malformed, offer-word}
 use Rattle.scheduler.proofs.trace.call_at.Statement.{statement}
 use Rattle.scheduler.proofs.trace.call_at.Tie as tie
 
@@ -77,7 +77,7 @@ offer-requires c κs =
     let s = c .before .before .before .before .before .before .before .before in
     let r = ranged (s .args .p) (given s) (s .pre .0) in
     let few = policy-laws (s .args .p) (r .fit) .order .classes-few .1 in
-    (omega (arith, r .same-count), λ k l. r .queue k l .in-ring)
+    (omega (arith, r .same-count), λ k l. r .queue k l .in-ring, offer-word (s .args .word) _ (sym (c .before .before .before .before .before .before .call-of .ensures) ∙ c .before .before .before .before .call .given .1))
 
 write-requires-3 : tie.Need-write-requires-3
 write-requires-3 c κs = c .before .before .before .before .before .before .before .before .before .before .pre .3

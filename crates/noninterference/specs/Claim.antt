@@ -1,6 +1,7 @@
 -- Demand 3: noninterference. It is one claim about two lists of trace numbers as wholes, for every accepted policy and every class L. It is put together from the
 -- definitions that the contracts of demand 2 cite: `fresh`, `callOf`, `logOf` and `stateAfter` (scheduler: Call, Trace, Calls), `extract` (extract: Extract), `run` and
--- `logAfter` (scheduler: Run).
+-- `logAfter` (scheduler: Run). That calls made singly, inside one run or in several are one and the same list of calls is said in the crate `log` (`RunLaws`: `one-call`,
+-- `cut-run`).
 use mathlib.Core.Path.{_≡_}
 use mathlib.Core.Bool.{Bool, true, false, not}
 use mathlib.Core.List.{List, [], _∷_}

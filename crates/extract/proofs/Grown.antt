@@ -10,7 +10,6 @@ use native.Mathlib.Nat.{le-refl}
 use native.Mathlib.Numerals.{add-one}
 use native.Mathlib.Omega.{arith}
 use borrow.Author.Tests.{ne-eqb}
-use lib.Dec.{eqb}
 use lib.ListN.{length, getD, take, drop, length-append, take-append-drop}
 use lib.Seq.{length-take-le, take-suc, getD-drop, drop-drop, sets}
 use Rattle.policy.proofs.Truth.{either, not-both}
@@ -20,19 +19,16 @@ use Rattle.scheduler.proofs.Climbing.{on-true, on-false}
 use Rattle.scheduler.specs.Trace.{callOf}
 use Rattle.scheduler.specs.declared.trace.Call.{Call}
 use Rattle.scheduler.specs.declared.trace.Call.the-variants.{Tick, Offer, Malformed}
+use Rattle.scheduler.proofs.Told.{told-offer, told-malformed}
 use Rattle.extract.specs.Seen.{callStays, stays, staying}
 use Rattle.extract.specs.Extract.{hideWord, hideTurn, lineSeen, lineAt, extractOf}
-use Rattle.extract.proofs.Stores.{written-more}
+use Rattle.policy.proofs.Stores.{written-more}
 
 -- a number other than 0 is an offer or malformed
 no-tick : (w : ℕ) → ((w ≡ 0) → ⊥) → (callOf w ≡ Offer (requestOf w)) ⊎ (callOf w ≡ Malformed)
-unfolding callOf
 no-tick w some =
-    let past = on-false (eqb w 0) Tick _ (ne-eqb w 0 some) in
-    ⊎-elim
-    (λ t. inl (past ∙ on-true (isOffer w) (Offer (requestOf w)) Malformed t))
-    (λ t. inr (past ∙ on-false (isOffer w) (Offer (requestOf w)) Malformed t))
-    (either (isOffer w))
+    let other = ne-eqb w 0 some in
+    ⊎-elim (λ t. inl (told-offer w other t)) (λ t. inr (told-malformed w other t)) (either (isOffer w))
 
 module _ (seen : ℕ → Bool) where
   malformed-dropped : callStays seen Malformed ≡ false

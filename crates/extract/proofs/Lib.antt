@@ -1,7 +1,5 @@
 -- Laws that belong to no one function.
 
--- of stores one after the other
-pub mod Stores
 -- of the calls that stay and of extracts: their lengths, and one more call
 pub mod Grown
 -- of cuts, and of how many numbers an extract has

@@ -1,6 +1,6 @@
 -- The second step of a tick at a high owner: the low classes see nothing but that a column command of theirs goes out when it is due.
 -- Assumes nothing.
-use mathlib.Core.Path.{_≡_, refl, sym, ap, _∙_, subst}
+use mathlib.Core.Path.{_≡_, refl, sym, ap, _∙_}
 use mathlib.Core.Logic.{⊎-elim}
 use mathlib.Core.Bool.{Bool, true, false, cond}
 use mathlib.Core.List.{List}
@@ -8,12 +8,12 @@ use Prim.Native.Nat.{ℕ, _+_, _/_, _%_, _<_}
 use native.Mathlib.Nat.{lt-irrefl}
 use native.Mathlib.Omega.{arith}
 use borrow.Author.Tests.{eqb-true, eqb-false}
-use lib.Dec.{eqb, lit<}
+use lib.Dec.{eqb}
 use lib.ListN.{length, set}
 use Rattle.policy.specs.Laws.{TimingLaws}
 use Rattle.policy.specs.declared.Timing.{Timing}
 use Rattle.policy.proofs.Truth.{either, and-left, and-right, not-both}
-use Rattle.scheduler.specs.Word.{classOf, isOffer, soundWord, commandNumber}
+use Rattle.scheduler.specs.Word.{classOf, soundWord, commandNumber}
 use Rattle.scheduler.specs.Queue.{waitingAt}
 use Rattle.scheduler.specs.Wire.{dueAt, sentAt, activated}
 use Rattle.scheduler.specs.Step.{Driven, canActivate, drive}
@@ -26,7 +26,7 @@ use Rattle.scheduler.proofs.Ranged.{sound-offer}
 use Rattle.scheduler.proofs.Pending.{inside, Fits}
 use Rattle.scheduler.proofs.Flying.{outcome}
 use Rattle.scheduler.proofs.Waiting.{dequeue-beside}
-use Rattle.scheduler.proofs.Whole.{QueuesRange, FlightRange}
+use Rattle.scheduler.proofs.Whole.{QueuesRange, FlightRange, due-offer}
 use Rattle.scheduler.proofs.Kept.{head-right}
 use Rattle.extract.specs.Extract.{hideWord}
 use Rattle.noninterference.specs.Low.{QueuesAgree, PendingAgree}
@@ -115,13 +115,6 @@ module _ (low : ℕ → Bool) (n : ℕ) (timing : Timing) (t owner : ℕ) (elide
       (λ due e i. unseen (f .responses) (timing .response) (fr .responses-long) (omega (arith, laws .response-bounds .1, laws .dead-bounds .1)) (fr .responses-due) e i)
       (λ due stays i. refl)
 
-  -- a due word is an offer's
-  due-offer : eqb (dueAt (f .columns) t) 0 ≡ false → isOffer (dueAt (f .columns) t) ≡ true
-  due-offer some =
-      let now : t + 0 ≡ t = omega arith in
-      subst (λ (k : ℕ). isOffer (dueAt (f .columns) k) ≡ true) now
-      (⊎-elim (λ z. absurd (eqb-false (dueAt (f .columns) t) 0 some (ap (dueAt (f .columns)) (sym now) ∙ z))) (λ fits. sound-offer n (dueAt (f .columns) (t + 0)) (fits .1)) (fr .columns-due 0 (lit< tt)))
-
   -- what is seen of the wires is the due column command
   pub quiet-command : hideWord low (commandNumber (driven .wires)) ≡ columnShown (hideWord low (dueAt (f .columns) t))
   unfolding commandNumber rightWord
@@ -129,7 +122,7 @@ module _ (low : ℕ → Bool) (n : ℕ) (timing : Timing) (t owner : ℕ) (elide
       let due = dueAt (f .columns) t in
       let nothing : (due ≡ 0) → 0 ≡ columnShown (hideWord low due) = λ none. sym (ap columnShown (ap (hideWord low) none ∙ hidden-none low)) in
       outcome timing t owner elided q f (λ d. hideWord low (commandNumber (d .wires)) ≡ columnShown (hideWord low due))
-      (λ some. ap (λ (k : ℕ). hideWord low (k + 1073741824)) (word-back due (due-offer some)) ∙ column-hidden low due some)
+      (λ some. ap (λ (k : ℕ). hideWord low (k + 1073741824)) (word-back due (due-offer n timing t f fr (eqb-false due 0 some))) ∙ column-hidden low due some)
       (λ none goes.
       let sound = and-left (soundWord n head) (eqb (classOf head) owner) (head-right n timing t owner elided q f laws small qr fr goes) in
       ap (hideWord low) (word-back head (sound-offer n head sound)) ∙ head-hidden goes ∙ nothing none)

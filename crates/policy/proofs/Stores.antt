@@ -26,3 +26,11 @@ written-more p vs l n e h =
     sets-eq vs (p ++ drop n l) n (omega arith)
     ∙ ap (λ (q : List ℕ). q ++ vs ++ drop (n + length vs) (p ++ drop n l)) (take-at p (drop n l) n e)
     ∙ ap (λ (q : List ℕ). p ++ vs ++ q) (behind p l n (length vs) e)
+
+-- four stores in a row are a run
+pub four : (l : List ℕ) (i a b c d : ℕ) → set (set (set (set l i a) (i + 1) b) (i + 2) c) (i + 3) d ≡ sets l i (a ∷ b ∷ c ∷ d ∷ [])
+four l i a b c d =
+    let e1 : i + 1 ≡ suc i = omega arith in
+    let e2 : i + 2 ≡ suc (suc i) = omega arith in
+    let e3 : i + 3 ≡ suc (suc (suc i)) = omega arith in
+    rw (e3, e2, e1)

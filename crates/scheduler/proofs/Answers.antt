@@ -1,13 +1,11 @@
 -- Calls on a state in range, without the test, and the answers to trace words.
 -- Assumes nothing.
-use mathlib.Core.Path.{_≡_, sym, ap, _∙_}
-use mathlib.Core.Logic.{⊎-elim}
+use mathlib.Core.Path.{_≡_, ap, _∙_}
 use mathlib.Core.Bool.{true, false}
-use lib.Dec.{ltb, eqb}
+use lib.Dec.{ltb}
 use Rattle.policy.specs.declared.Policy.{Policy}
-use Rattle.policy.proofs.Truth.{either}
 use Prim.Native.Nat.{ℕ}
-use Rattle.scheduler.specs.Word.{isOffer, requestOf, wordOf, commandNumber}
+use Rattle.scheduler.specs.Word.{commandNumber}
 use Rattle.scheduler.specs.Range.{inRange}
 use Rattle.scheduler.specs.Call.{offerOn, offer, silent, afterTick, tickOn, tick}
 use Rattle.scheduler.specs.Trace.{callOf}
@@ -16,9 +14,7 @@ use Rattle.scheduler.specs.declared.Request.{Request}
 use Rattle.scheduler.specs.declared.State.{State}
 use Rattle.scheduler.specs.declared.Ticked.{Ticked}
 use Rattle.scheduler.specs.declared.Offered.{Offered}
-use Rattle.scheduler.specs.declared.trace.Call.{Call}
 use Rattle.scheduler.specs.declared.trace.Call.the-variants.{Tick, Offer, Malformed}
-use Rattle.scheduler.proofs.Reading.{word-back}
 use Rattle.scheduler.proofs.Climbing.{on-true, on-false}
 
 module _ (p : Policy) (s : State) (given : inRange p s ≡ true) where
@@ -58,29 +54,3 @@ module _ (p : Policy) (s : State) (w : ℕ) where
   pub called-malformed : callOf w ≡ Malformed → answerTo p s w ≡ record { state = s; status = 14; command = 0; response = 0; turn = 0 }
   unfolding answerTo answer
   called-malformed e = ap (answer p s) e
-
--- ---- a word that is an offer's
-
--- the word of an offer, and of any other call the one that is given
-word-in : Call → ℕ → ℕ
-word-in Tick w = w
-word-in (Offer r) w = wordOf r
-word-in Malformed w = w
-
-word-kept : (w : ℕ) → word-in (callOf w) w ≡ w
-unfolding callOf word-in
-word-kept w =
-    let neither : Call = elim (isOffer w) [ true ↦ Offer (requestOf w) | false ↦ Malformed ] in
-    ⊎-elim
-    (λ tick. ap (λ (c : Call). word-in c w) (on-true (eqb w 0) Tick neither tick))
-    (λ other.
-    ap (λ (c : Call). word-in c w) (on-false (eqb w 0) Tick neither other)
-    ∙ ⊎-elim
-    (λ i. ap (λ (c : Call). word-in c w) (on-true (isOffer w) (Offer (requestOf w)) Malformed i) ∙ word-back w i)
-    (λ i. ap (λ (c : Call). word-in c w) (on-false (isOffer w) (Offer (requestOf w)) Malformed i))
-    (either (isOffer w)))
-    (either (eqb w 0))
-
-pub offer-word : (w : ℕ) (r : Request) → callOf w ≡ Offer r → w ≡ wordOf r
-unfolding word-in
-offer-word w r e = sym (word-kept w) ∙ ap (λ (c : Call). word-in c w) e

@@ -34,6 +34,8 @@ pub mod Steady
 pub mod Laws
 -- of the definitions: document 01's worked turns
 pub mod Worked
+-- of trace words told apart
+pub mod Told
 -- of what is lent in place
 pub mod Lends
 -- of lists of calls

@@ -3,13 +3,13 @@
 use mathlib.Core.Path.{_≡_, refl, sym, ap, ap₂, _∙_}
 use mathlib.Core.Bool.{true}
 use mathlib.Core.List.{List, [], _∷_, _++_}
-use Prim.Native.Nat.{ℕ, suc, _+_, _*_, _≤_, _<_}
+use Prim.Native.Nat.{ℕ, _+_, _*_, _≤_, _<_}
 use native.Mathlib.Numerals.{add-one}
 use native.Mathlib.Omega.{arith}
-use lib.ListN.{length, getD, set, take, drop}
-use lib.Seq.{sets, take-suc, length-take-le}
+use lib.ListN.{length, getD, take, drop}
+use lib.Seq.{take-suc, length-take-le}
 use Rattle.policy.specs.declared.Policy.{Policy}
-use Rattle.policy.proofs.Stores.{written-more}
+use Rattle.policy.proofs.Stores.{written-more, four}
 use Rattle.scheduler.specs.Range.{inRange}
 use Rattle.scheduler.specs.Trace.{callOf}
 use Rattle.scheduler.specs.Calls.{answer, answerTo, stateAfter, logOf}
@@ -18,14 +18,6 @@ use Rattle.scheduler.specs.declared.State.{State}
 use Rattle.scheduler.specs.declared.trace.Call.{Call}
 use Rattle.scheduler.specs.declared.trace.Call.the-variants.{Tick, Offer, Malformed}
 use Rattle.scheduler.proofs.Kept.{offer-in-range, tick-in-range}
-
--- four stores in a row are a run
-four : (l : List ℕ) (i a b c d : ℕ) → set (set (set (set l i a) (i + 1) b) (i + 2) c) (i + 3) d ≡ sets l i (a ∷ b ∷ c ∷ d ∷ [])
-four l i a b c d =
-    let e1 : i + 1 ≡ suc i = omega arith in
-    let e2 : i + 2 ≡ suc (suc i) = omega arith in
-    let e3 : i + 3 ≡ suc (suc (suc i)) = omega arith in
-    rw (e3, e2, e1)
 
 module _ (p : Policy) where
   pub cut-state : (s : State) (xs ys : List ℕ) → stateAfter p s (xs ++ ys) ≡ stateAfter p (stateAfter p s xs) ys

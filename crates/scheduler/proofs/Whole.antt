@@ -1,11 +1,12 @@
 -- A state in range, part by part: queues, turns, flight. And back: parts in range make a state in range.
 -- Assumes nothing.
-use mathlib.Core.Path.{_≡_}
+use mathlib.Core.Path.{_≡_, sym, ap, _∙_, subst}
 use mathlib.Core.Logic.{⊎-elim}
 use mathlib.Core.Bool.{Bool, true, _&&_, _||_}
-use Prim.Native.Nat.{ℕ, _≤_, _<_}
+use Prim.Native.Nat.{ℕ, _+_, _≤_, _<_}
+use native.Mathlib.Omega.{arith}
 use borrow.Author.Tests.{eqb-true, eq-eqb, leb-true, le-leb, lt-ltb}
-use lib.Dec.{leb, eqb}
+use lib.Dec.{leb, eqb, lit<}
 use lib.ListN.{length, getD}
 use Rattle.policy.specs.Below.{every}
 use Rattle.policy.specs.Policy.{coverCount, cap}
@@ -14,13 +15,15 @@ use Rattle.policy.specs.declared.Timing.{Timing}
 use Rattle.policy.specs.declared.Policy.{Policy}
 use Rattle.policy.proofs.Truth.{and-left, and-right, and-four, and-both, or-left, or-right}
 use Rattle.policy.proofs.Below.{lt-or-ge, every-at, every-all}
+use Rattle.scheduler.specs.Word.{isOffer}
+use Rattle.scheduler.specs.Wire.{dueAt}
 use Rattle.scheduler.specs.Queue.{headOf, lengthOf, place, waitingAt}
 use Rattle.scheduler.specs.Range.{rightWord, ringInRange, queueInRange, turnsInRange, activateInRange, pendingInRange, countsInRange, flightInRange, shaped, stateInRange, inRange}
 use Rattle.scheduler.specs.History.{Each, Activates}
 use Rattle.scheduler.specs.declared.Queues.{Queues}
 use Rattle.scheduler.specs.declared.Flight.{Flight}
 use Rattle.scheduler.specs.declared.State.{State}
-use Rattle.scheduler.proofs.Ranged.{QueueRange, ranged}
+use Rattle.scheduler.proofs.Ranged.{QueueRange, ranged, sound-offer}
 use Rattle.scheduler.proofs.Pending.{Fits, pends, pends-back}
 use Rattle.scheduler.proofs.Charged.{TurnsRange}
 
@@ -123,6 +126,13 @@ whole p s e =
             responses-due = pends (p .classes) (s .cycle) (p .timing .response) (s .flight .responses) (flight .3);
           };
     }
+
+-- a due column's word is an offer
+pub due-offer : (n : ℕ) (timing : Timing) (t : ℕ) (f : Flight) → FlightRange n timing t f → ((dueAt (f .columns) t ≡ 0) → ⊥) → isOffer (dueAt (f .columns) t) ≡ true
+due-offer n timing t f range some =
+    let now : t + 0 ≡ t = omega arith in
+    subst (λ (k : ℕ). isOffer (dueAt (f .columns) k) ≡ true) now
+    (⊎-elim (λ none. absurd (some (ap (dueAt (f .columns)) (sym now) ∙ none))) (λ fits. sound-offer n (dueAt (f .columns) (t + 0)) (fits .1)) (range .columns-due 0 (lit< tt)))
 
 -- ---- and back
 

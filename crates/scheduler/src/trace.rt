@@ -10,7 +10,6 @@ ghost use Rattle.scheduler.specs.Trace.{callOf};
 ghost use Rattle.scheduler.specs.Calls.{answerTo, stateAfter, logOf};
 ghost use Rattle.scheduler.specs.Run.{run, logAfter};
 ghost use Rattle.scheduler.specs.InPlace.{Lent, stateOf, written};
-use super::Record;
 use super::Request;
 use super::State;
 use super::in_range;

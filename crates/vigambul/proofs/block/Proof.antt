@@ -9,7 +9,7 @@ use borrow.Author.Needs.{needs}
 use lib.ListN.{length}
 use Rattle.text.specs.Lines.{lineCount}
 use Rattle.text.specs.Words.{wordCount}
-use Rattle.vigambul.proofs.Counting.{counts}
+use Rattle.io.proofs.Counting.{counts}
 use Rattle.vigambul.proofs.block.Statement.{statement}
 use Rattle.vigambul.proofs.block.Tie as tie
 

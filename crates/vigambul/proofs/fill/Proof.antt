@@ -4,7 +4,7 @@ use mathlib.Core.Path.{_≡_}
 use Prim.Native.Nat.{_-_, _≤_}
 use borrow.Author.Needs.{needs}
 use lib.ListN.{length}
-use Rattle.vigambul.proofs.Counting.{counts}
+use Rattle.io.proofs.Counting.{counts}
 use Rattle.vigambul.proofs.fill.Statement.{statement}
 use Rattle.vigambul.proofs.fill.Tie as tie
 

@@ -1,7 +1,6 @@
 -- `cases::calls::run` ends: the place rises to the list's length.
 -- Assumes nothing.
 use Prim.Native.Nat.{_-_, _≤_}
-use native.Mathlib.Omega.{arith}
 use borrow.Author.Needs.{needs}
 use lib.ListN.{length}
 use Rattle.cases.proofs.calls.run.Statement.{statement}

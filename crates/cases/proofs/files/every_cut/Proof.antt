@@ -1,7 +1,6 @@
 -- `cases::files::every_cut` ends: the length rises to 34.
 -- Assumes nothing.
 use Prim.Native.Nat.{_-_, _≤_}
-use native.Mathlib.Omega.{arith}
 use borrow.Author.Needs.{needs}
 use Rattle.cases.proofs.files.every_cut.Statement.{statement}
 use Rattle.cases.proofs.files.every_cut.Tie as tie

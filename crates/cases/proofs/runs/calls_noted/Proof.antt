@@ -1,7 +1,6 @@
 -- `cases::runs::calls_noted` ends: the place rises to 40.
 -- Assumes nothing.
 use Prim.Native.Nat.{_-_, _≤_}
-use native.Mathlib.Omega.{arith}
 use borrow.Author.Needs.{needs}
 use Rattle.cases.proofs.runs.calls_noted.Statement.{statement}
 use Rattle.cases.proofs.runs.calls_noted.Tie as tie

@@ -1,7 +1,6 @@
 -- `cases::runs::every_cut` ends: the place rises to 40.
 -- Assumes nothing.
 use Prim.Native.Nat.{_-_, _≤_}
-use native.Mathlib.Omega.{arith}
 use borrow.Author.Needs.{needs}
 use Rattle.cases.proofs.runs.every_cut.Statement.{statement}
 use Rattle.cases.proofs.runs.every_cut.Tie as tie

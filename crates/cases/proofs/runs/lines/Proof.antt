@@ -1,7 +1,6 @@
 -- `cases::runs::lines` ends: the place rises to a quarter of the log's length.
 -- Assumes nothing.
 use Prim.Native.Nat.{_-_, _≤_, _/_}
-use native.Mathlib.Omega.{arith}
 use borrow.Author.Needs.{needs}
 use lib.ListN.{length}
 use Rattle.cases.proofs.runs.lines.Statement.{statement}

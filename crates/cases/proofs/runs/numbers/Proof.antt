@@ -1,7 +1,6 @@
 -- `cases::runs::numbers` ends: the place rises to the log's length.
 -- Assumes nothing.
 use Prim.Native.Nat.{_-_, _≤_}
-use native.Mathlib.Omega.{arith}
 use borrow.Author.Needs.{needs}
 use lib.ListN.{length}
 use Rattle.cases.proofs.runs.numbers.Statement.{statement}

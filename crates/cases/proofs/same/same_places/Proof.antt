@@ -1,7 +1,6 @@
 -- `cases::same::same_places` ends: the place rises to 16.
 -- Assumes nothing.
 use Prim.Native.Nat.{_-_, _≤_}
-use native.Mathlib.Omega.{arith}
 use borrow.Author.Needs.{needs}
 use Rattle.cases.proofs.same.same_places.Statement.{statement}
 use Rattle.cases.proofs.same.same_places.Tie as tie

@@ -1,16 +1,12 @@
 -- `scheduler::ticking::tick_in_place` meets its contract: the turns, the wires and the response are those of the definition, one after the other.
 -- Assumes nothing.
 use mathlib.Core.Path.{_≡_, refl, sym, ap, ap₂, _∙_, subst}
-use mathlib.Core.Logic.{⊎-elim}
-use mathlib.Core.Bool.{true}
 use mathlib.Core.List.{List}
-use Prim.Native.Nat.{ℕ, _+_, _<_}
+use Prim.Native.Nat.{ℕ, _<_}
 use native.Mathlib.Omega.{arith}
 use native.Mathlib.Nat.{lt-of-lt-of-le}
 use borrow.Author.Needs.{needs}
-use lib.Dec.{lit<}
 use Rattle.policy.proofs.Laws.{policy-laws}
-use Rattle.scheduler.specs.Word.{isOffer}
 use Rattle.scheduler.specs.Wire.{dueAt}
 use Rattle.scheduler.specs.Step.{turnsAt, Driven, drive, answered}
 use Rattle.scheduler.specs.Call.{turnShown, afterTick}
@@ -23,8 +19,8 @@ use Rattle.scheduler.specs.declared.Wires.{Wires}
 use Rattle.scheduler.specs.declared.State.{State}
 use Rattle.scheduler.specs.declared.Ticked.{Ticked}
 use Rattle.scheduler.proofs.Ordered.{turn-owner}
-use Rattle.scheduler.proofs.Ranged.{Ranged, ranged, ready, sound-offer}
-use Rattle.scheduler.proofs.Whole.{whole}
+use Rattle.scheduler.proofs.Ranged.{Ranged, ranged, ready}
+use Rattle.scheduler.proofs.Whole.{whole, due-offer}
 use Rattle.scheduler.proofs.ticking.tick_in_place.Statement.{statement}
 use Rattle.scheduler.proofs.ticking.tick_in_place.Tie as tie
 
@@ -92,20 +88,10 @@ driven-right c =
 turns-at-requires : tie.Need-turns-at-requires
 turns-at-requires c κs = let s = c .before .before .before .before in (fit s .fit, s .pre .1, s .pre .2, s .pre .3, whole (s .args .p) (given s) (s .pre .0) .turns-fit .pointers-fit .sixteen)
 
--- a due column's word is an offer
-due-offer : (c : tie.Start) → (dueAt (c .args .columns .now) (c .args .m .cycle) ≡ 0 → ⊥) → isOffer (dueAt (c .args .columns .now) (c .args .m .cycle)) ≡ true
-due-offer c some =
-    let t = c .args .m .cycle in
-    let columns = c .args .columns .now in
-    let here : t + 0 ≡ t = omega arith in
-    let pending = whole (c .args .p) (given c) (c .pre .0) .flight-fit .columns-due 0 (lit< tt) in
-    subst (λ (k : ℕ). isOffer (dueAt columns k) ≡ true) here
-    (⊎-elim (λ none. absurd (some (ap (dueAt columns) (sym here) ∙ none))) (λ fits. sound-offer (c .args .p .classes) (dueAt columns (t + 0)) (fits .1)) pending)
-
 drive-requires : tie.Need-drive-requires
 drive-requires c κs =
     let s = c .before .before .before .before .before .before .before .before .before .before in
-    (ready (s .args .p) (given s) (fit s) (s .pre .1) (c .before .before .before .before .before .turns-at .result .owner) (owner-small (c .before .before .before .before .before)), s .pre .2, due-offer s)
+    (ready (s .args .p) (given s) (fit s) (s .pre .1) (c .before .before .before .before .before .turns-at .result .owner) (owner-small (c .before .before .before .before .before)), s .pre .2, due-offer (s .args .p .classes) (s .args .p .timing) (s .args .m .cycle) (given s .flight) (whole (s .args .p) (given s) (s .pre .0) .flight-fit))
 
 answer-requires : tie.Need-answer-requires
 answer-requires c κs = search needs

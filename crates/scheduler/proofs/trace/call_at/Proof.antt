@@ -16,7 +16,8 @@ use Rattle.scheduler.specs.declared.Queues.{Queues}
 use Rattle.scheduler.specs.declared.State.{State}
 use Rattle.scheduler.specs.declared.Ticked.{Ticked}
 use Rattle.scheduler.proofs.Ranged.{ranged}
-use Rattle.scheduler.proofs.Answers.{offer-is, tick-is, tick-late, ticked, offered, called-tick, called-offer, called-malformed, offer-word}
+use Rattle.scheduler.proofs.Told.{offer-word}
+use Rattle.scheduler.proofs.Answers.{offer-is, tick-is, tick-late, ticked, offered, called-tick, called-offer, called-malformed}
 use Rattle.scheduler.proofs.trace.call_at.Statement.{statement}
 use Rattle.scheduler.proofs.trace.call_at.Tie as tie
 

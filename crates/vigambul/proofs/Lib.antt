@@ -1,4 +1,0 @@
--- Laws that belong to no one function.
-
--- of a count of bytes
-pub mod Counting

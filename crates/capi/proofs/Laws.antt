@@ -13,7 +13,7 @@ use Rattle.scheduler.specs.Call.{fresh}
 use Rattle.scheduler.specs.Run.{hasRoom}
 use Rattle.scheduler.specs.declared.trace.Ran.{Ran}
 use Rattle.scheduler.proofs.Laws.{scheduler-laws}
-use Rattle.scheduler.proofs.Sides.{by-room, by-calls}
+use Rattle.scheduler.proofs.Run.{by-room, by-calls}
 use Rattle.capi.specs.Laws.{TakenRuns}
 use Rattle.capi.proofs.Sides.{held, taken}
 

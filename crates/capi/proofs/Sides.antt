@@ -11,7 +11,7 @@ use Rattle.scheduler.specs.Call.{fresh}
 use Rattle.scheduler.specs.Run.{run, logAfter}
 use Rattle.extract.specs.Extract.{extract, outAfter}
 use Rattle.capi.specs.Runs.{runStatus, runLog}
-use Rattle.capi.specs.Extracts.{extractStatus, extractCount, extractOut}
+use Rattle.capi.specs.Extracts.{fileExtractStatus, fileExtractCount, fileExtractOut}
 
 module _ (file trace log : List ℕ) where
   abbrev pub held : Policy
@@ -43,10 +43,10 @@ module _ (file : List ℕ) (l : ℕ) (trace log out : List ℕ) where
   abbrev out-seen : Bool → List ℕ
   out-seen b = cond b (outAfter (readFile file .policy) l trace log out) out
 
-  pub refused-extract : (readFile file .status ≡ 0 → ⊥) → (extractStatus file l trace log out ≡ readFile file .status) × (extractCount file l trace log out ≡ 0) × (extractOut file l trace log out ≡ out)
-  unfolding extractStatus extractCount extractOut
+  pub refused-extract : (readFile file .status ≡ 0 → ⊥) → (fileExtractStatus file l trace log out ≡ readFile file .status) × (fileExtractCount file l trace log out ≡ 0) × (fileExtractOut file l trace log out ≡ out)
+  unfolding fileExtractStatus fileExtractCount fileExtractOut
   refused-extract some = let e = ne-eqb _ 0 some in (ap status-seen e, ap count-seen e, ap out-seen e)
 
-  pub taken-extract : readFile file .status ≡ 0 → (extractStatus file l trace log out ≡ extract (readFile file .policy) l trace log out .status) × (extractCount file l trace log out ≡ extract (readFile file .policy) l trace log out .count) × (extractOut file l trace log out ≡ outAfter (readFile file .policy) l trace log out)
-  unfolding extractStatus extractCount extractOut
+  pub taken-extract : readFile file .status ≡ 0 → (fileExtractStatus file l trace log out ≡ extract (readFile file .policy) l trace log out .status) × (fileExtractCount file l trace log out ≡ extract (readFile file .policy) l trace log out .count) × (fileExtractOut file l trace log out ≡ outAfter (readFile file .policy) l trace log out)
+  unfolding fileExtractStatus fileExtractCount fileExtractOut
   taken-extract none = let e = eq-eqb _ 0 none in (ap status-seen e, ap count-seen e, ap out-seen e)

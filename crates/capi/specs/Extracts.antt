@@ -7,13 +7,13 @@ use Rattle.policy.specs.File.{readFile}
 use Rattle.extract.specs.Extract.{extract, outAfter}
 
 -- the number that refuses the file, and else that of the extract
-unfoldable pub extractStatus : List ℕ → ℕ → List ℕ → List ℕ → List ℕ → ℕ
-extractStatus file l trace log out = cond (eqb (readFile file .status) 0) (extract (readFile file .policy) l trace log out .status) (readFile file .status)
+unfoldable pub fileExtractStatus : List ℕ → ℕ → List ℕ → List ℕ → List ℕ → ℕ
+fileExtractStatus file l trace log out = cond (eqb (readFile file .status) 0) (extract (readFile file .policy) l trace log out .status) (readFile file .status)
 
 -- how many numbers it wrote: none, where the file is refused
-unfoldable pub extractCount : List ℕ → ℕ → List ℕ → List ℕ → List ℕ → ℕ
-extractCount file l trace log out = cond (eqb (readFile file .status) 0) (extract (readFile file .policy) l trace log out .count) 0
+unfoldable pub fileExtractCount : List ℕ → ℕ → List ℕ → List ℕ → List ℕ → ℕ
+fileExtractCount file l trace log out = cond (eqb (readFile file .status) 0) (extract (readFile file .policy) l trace log out .count) 0
 
 -- the numbers of `out` after it: as they were, where the file is refused
-unfoldable pub extractOut : List ℕ → ℕ → List ℕ → List ℕ → List ℕ → List ℕ
-extractOut file l trace log out = cond (eqb (readFile file .status) 0) (outAfter (readFile file .policy) l trace log out) out
+unfoldable pub fileExtractOut : List ℕ → ℕ → List ℕ → List ℕ → List ℕ → List ℕ
+fileExtractOut file l trace log out = cond (eqb (readFile file .status) 0) (outAfter (readFile file .policy) l trace log out) out

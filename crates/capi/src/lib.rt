@@ -2,7 +2,7 @@
 
 ghost use mathlib.Core.Path.{_≡_};
 ghost use Rattle.capi.specs.Runs.{runStatus, runLog};
-ghost use Rattle.capi.specs.Extracts.{extractStatus, extractCount, extractOut};
+ghost use Rattle.capi.specs.Extracts.{fileExtractStatus, fileExtractCount, fileExtractOut};
 
 // Reads a policy file's bytes, makes its fresh state and runs a trace from it into a log. Answers 0, or 1 to 8 for the file, or 15 for a log that is too short; then
 // nothing is written.
@@ -33,9 +33,9 @@ pub extern "C" fn vigambul_extract(
     out: &mut [u32],
     status: &mut u32,
 ) -> usize
-    ensures { λ r. ⌜ r ≡ extractCount (now (file .entry)) class (now (trace .entry)) (now (log .entry)) (now (out .entry)) ⌝ }
-    ensures { λ r. ⌜ now (status .exit) ≡ extractStatus (now (file .entry)) class (now (trace .entry)) (now (log .entry)) (now (out .entry)) ⌝ }
-    ensures { λ r. ⌜ now (out .exit) ≡ extractOut (now (file .entry)) class (now (trace .entry)) (now (log .entry)) (now (out .entry)) ⌝ }
+    ensures { λ r. ⌜ r ≡ fileExtractCount (now (file .entry)) class (now (trace .entry)) (now (log .entry)) (now (out .entry)) ⌝ }
+    ensures { λ r. ⌜ now (status .exit) ≡ fileExtractStatus (now (file .entry)) class (now (trace .entry)) (now (log .entry)) (now (out .entry)) ⌝ }
+    ensures { λ r. ⌜ now (out .exit) ≡ fileExtractOut (now (file .entry)) class (now (trace .entry)) (now (log .entry)) (now (out .entry)) ⌝ }
 {
     let reading = policy::file::read(file);
     if reading.status != 0 {

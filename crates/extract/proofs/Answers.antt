@@ -16,10 +16,10 @@ use Rattle.policy.specs.Policy.{flows, inRange, isClass}
 use Rattle.policy.specs.declared.Policy.{Policy}
 use Rattle.policy.proofs.Truth.{either, false-unless, or-left, or-right}
 use Rattle.policy.proofs.Below.{lt-or-ge}
-use Rattle.policy.proofs.Sets.{member-over, setOf-below, member-setOf}
+use Rattle.policy.proofs.Masks.{member-over, setOf-below, member-setOf}
 use Rattle.policy.proofs.Laws.{policy-laws}
 use Rattle.extract.specs.Seen.{seenBy, staying}
-use Rattle.extract.specs.Extract.{extractOf, keptFor, refusal, extract, outAfter}
+use Rattle.extract.specs.Extract.{extractOf, keptFor, extractStatus, extract, outAfter}
 use Rattle.extract.proofs.Laws.{four-each}
 
 -- ---- the classes that are seen
@@ -33,7 +33,7 @@ seen-is p given l =
     (λ small. member-setOf (seenBy p l) 16 c small)
     (λ large.
     member-over (setOf 16 (seenBy p l)) 16 c (setOf-below (seenBy p l) 16) large
-    ∙ sym (false-unless (flows p c l) (λ e. omega (arith, policy-laws p given .order .from-class c l e, policy-laws p given .order .classes-few .1))))
+    ∙ sym (false-unless (flows p c l) (λ e. omega (arith, policy-laws p given .order .class-small c (policy-laws p given .order .from-class c l e)))))
     (lt-or-ge c 16))
 
 -- ---- the lengths
@@ -57,42 +57,42 @@ four-times a b =
 -- ---- the answers
 
 module _ (p : Policy) (l : ℕ) (trace log out : List ℕ) where
-  pub refused-13 : inRange p ≡ false → refusal p l trace log out ≡ 13
-  unfolding refusal
+  pub refused-13 : inRange p ≡ false → extractStatus p l trace log out ≡ 13
+  unfolding extractStatus
   refused-13 e = rw e
 
   -- where 13 does not refuse it
   module _ (given : inRange p ≡ true) where
-    pub refused-9 : isClass p l ≡ false → refusal p l trace log out ≡ 9
-    unfolding refusal
+    pub refused-9 : isClass p l ≡ false → extractStatus p l trace log out ≡ 9
+    unfolding extractStatus
     refused-9 e = rw (given, e)
 
     -- nor 9
     module _ (class : isClass p l ≡ true) where
-      pub refused-17 : eqb (length log) (4 * length trace) ≡ false → refusal p l trace log out ≡ 17
-      unfolding refusal
+      pub refused-17 : eqb (length log) (4 * length trace) ≡ false → extractStatus p l trace log out ≡ 17
+      unfolding extractStatus
       refused-17 e = rw (given, class, e)
 
       -- nor 17
       module _ (lengths : length log ≡ 4 * length trace) where
-        pub refused-16 : length out < length (keptFor p l trace log) → refusal p l trace log out ≡ 16
-        unfolding refusal
+        pub refused-16 : length out < length (keptFor p l trace log) → extractStatus p l trace log out ≡ 16
+        unfolding extractStatus
         refused-16 h = rw (given, class, eq-eqb (length log) (4 * length trace) lengths, lt-leb (length (keptFor p l trace log)) (length out) h)
 
-        pub not-refused : length (keptFor p l trace log) ≤ length out → refusal p l trace log out ≡ 0
-        unfolding refusal
+        pub not-refused : length (keptFor p l trace log) ≤ length out → extractStatus p l trace log out ≡ 0
+        unfolding extractStatus
         not-refused h = rw (given, class, eq-eqb (length log) (4 * length trace) lengths, le-leb (length (keptFor p l trace log)) (length out) h)
 
   -- "A refused call .. writes nothing, and a refused extract hands back a count of 0"
-  pub refused : (n : ℕ) → eqb n 0 ≡ false → refusal p l trace log out ≡ n → (record { status = n; count = 0 } ≡ extract p l trace log out) × (out ≡ outAfter p l trace log out)
+  pub refused : (n : ℕ) → eqb n 0 ≡ false → extractStatus p l trace log out ≡ n → (record { status = n; count = 0 } ≡ extract p l trace log out) × (out ≡ outAfter p l trace log out)
   unfolding extract outAfter
   refused n some e = (rw (e, some), rw (e, some))
 
-  pub taken : {n : ℕ} → refusal p l trace log out ≡ 0 → n ≡ length (keptFor p l trace log) → record { status = 0; count = n } ≡ extract p l trace log out
+  pub taken : {n : ℕ} → extractStatus p l trace log out ≡ 0 → n ≡ length (keptFor p l trace log) → record { status = 0; count = n } ≡ extract p l trace log out
   unfolding extract
   taken e k = rw (e, k)
 
-  pub written : refusal p l trace log out ≡ 0 → keptFor p l trace log ++ drop (length (keptFor p l trace log)) out ≡ outAfter p l trace log out
+  pub written : extractStatus p l trace log out ≡ 0 → keptFor p l trace log ++ drop (length (keptFor p l trace log)) out ≡ outAfter p l trace log out
   unfolding outAfter
   written e = rw e
 

@@ -12,16 +12,15 @@ use native.Mathlib.Omega.{arith}
 use borrow.Author.Tests.{ne-eqb}
 use lib.ListN.{length, getD, take, drop, length-append, take-append-drop}
 use lib.Seq.{length-take-le, take-suc, getD-drop, drop-drop, sets}
-use Rattle.policy.proofs.Truth.{either, not-both}
+use Rattle.policy.proofs.Truth.{either, not-both, on-true, on-false}
 use Rattle.scheduler.specs.Word.{isOffer, requestOf}
 use Rattle.scheduler.specs.declared.Request.{Request}
-use Rattle.scheduler.proofs.Climbing.{on-true, on-false}
 use Rattle.scheduler.specs.Trace.{callOf}
 use Rattle.scheduler.specs.declared.trace.Call.{Call}
 use Rattle.scheduler.specs.declared.trace.Call.the-variants.{Tick, Offer, Malformed}
-use Rattle.scheduler.proofs.Told.{told-offer, told-malformed}
+use Rattle.scheduler.proofs.TraceLaws.{told-offer, told-malformed}
 use Rattle.extract.specs.Seen.{callStays, stays, staying}
-use Rattle.extract.specs.Extract.{hideWord, hideTurn, lineSeen, lineAt, extractOf}
+use Rattle.extract.specs.Extract.{hideWord, hideTurn, lineSeen, lineSeenAt, extractOf}
 use Rattle.policy.proofs.Stores.{written-more}
 
 -- a number other than 0 is an offer or malformed
@@ -67,12 +66,12 @@ module _ (seen : ℕ → Bool) where
       (λ t. absurd (not-both e (ap (callStays seen) t ∙ malformed-dropped)))
       (no-tick w some)
 
-  pub four-left : (w : ℕ) (log : List ℕ) (from : ℕ) → stays seen w ≡ true → length (lineAt seen w log from) ≡ 4
-  unfolding stays lineAt
+  pub four-left : (w : ℕ) (log : List ℕ) (from : ℕ) → stays seen w ≡ true → length (lineSeenAt seen w log from) ≡ 4
+  unfolding stays lineSeenAt
   four-left w log from e = line-kept (callOf w) (getD log from 0) (getD log (from + 1) 0) (getD log (from + 2) 0) (getD log (from + 3) 0) e
 
-  pub none-left : (w : ℕ) (log : List ℕ) (from : ℕ) → stays seen w ≡ false → lineAt seen w log from ≡ []
-  unfolding stays lineAt
+  pub none-left : (w : ℕ) (log : List ℕ) (from : ℕ) → stays seen w ≡ false → lineSeenAt seen w log from ≡ []
+  unfolding stays lineSeenAt
   none-left w log from e = line-dropped (callOf w) (getD log from 0) (getD log (from + 1) 0) (getD log (from + 2) 0) (getD log (from + 3) 0) e
 
   -- ---- the calls that stay
@@ -131,21 +130,21 @@ module _ (seen : ℕ → Bool) where
   extract-append [] ys log = refl
   extract-append (x ∷ xs) ys log =
       let place : 4 + 4 * length xs ≡ 4 * suc (length xs) = omega arith in
-      let line = lineAt seen x log 0 in
+      let line = lineSeenAt seen x log 0 in
       ap (λ (l : List ℕ). line ++ l)
       (extract-append xs ys (drop 4 log)
       ∙ ap (λ (l : List ℕ). extractOf seen xs (drop 4 log) ++ extractOf seen ys l) (drop-drop (4 * length xs) 4 log ∙ ap (λ (n : ℕ). drop n log) place))
       ∙ sym (append-assoc line (extractOf seen xs (drop 4 log)) (extractOf seen ys (drop (4 * suc (length xs)) log)))
 
   -- a line is the first of what stands from there on
-  line-there : (w : ℕ) (log : List ℕ) (from : ℕ) → lineAt seen w (drop from log) 0 ≡ lineAt seen w log from
-  unfolding lineAt
+  line-there : (w : ℕ) (log : List ℕ) (from : ℕ) → lineSeenAt seen w (drop from log) 0 ≡ lineSeenAt seen w log from
+  unfolding lineSeenAt
   line-there w log from =
       let zeroth : getD (drop from log) 0 0 ≡ getD log from 0 = getD-drop from log 0 0 ∙ ap (λ (n : ℕ). getD log n 0) (omega arith) in
       rw (zeroth, getD-drop from log 1 0, getD-drop from log 2 0, getD-drop from log 3 0)
 
   -- one more call
-  extract-more : (trace log : List ℕ) (i : ℕ) → i < length trace → extractOf seen (take (i + 1) trace) log ≡ extractOf seen (take i trace) log ++ lineAt seen (getD trace i 0) log (4 * i)
+  extract-more : (trace log : List ℕ) (i : ℕ) → i < length trace → extractOf seen (take (i + 1) trace) log ≡ extractOf seen (take i trace) log ++ lineSeenAt seen (getD trace i 0) log (4 * i)
   unfolding extractOf
   extract-more trace log i h =
       let w = getD trace i 0 in
@@ -154,8 +153,8 @@ module _ (seen : ℕ → Bool) where
       (ap (λ (l : List ℕ). extractOf seen l log) (take-suc trace i 0 h)
       ∙ extract-append (take i trace) (w ∷ []) log
       ∙ ap (λ (l : List ℕ). extractOf seen (take i trace) log ++ l)
-      (append-nil (lineAt seen w (drop (4 * length (take i trace)) log) 0)
-      ∙ ap (λ (n : ℕ). lineAt seen w (drop (4 * n) log) 0) size
+      (append-nil (lineSeenAt seen w (drop (4 * length (take i trace)) log) 0)
+      ∙ ap (λ (n : ℕ). lineSeenAt seen w (drop (4 * n) log) 0) size
       ∙ line-there w log (4 * i)))
 
   -- the extract of the first calls is no longer than the whole
@@ -172,9 +171,9 @@ module _ (seen : ℕ → Bool) where
   pub line-fits : (trace log : List ℕ) (i room : ℕ)
       → i < length trace
       → length (extractOf seen trace log) ≤ room
-      → length (extractOf seen (take i trace) log) + length (lineAt seen (getD trace i 0) log (4 * i)) ≤ room
+      → length (extractOf seen (take i trace) log) + length (lineSeenAt seen (getD trace i 0) log (4 * i)) ≤ room
   line-fits trace log i room h fits =
-      let more = ap length (extract-more trace log i h) ∙ length-append (extractOf seen (take i trace) log) (lineAt seen (getD trace i 0) log (4 * i)) in
+      let more = ap length (extract-more trace log i h) ∙ length-append (extractOf seen (take i trace) log) (lineSeenAt seen (getD trace i 0) log (4 * i)) in
       omega (arith, more, extract-part trace log (i + 1))
 
   -- line i, put behind those before it
@@ -183,12 +182,12 @@ module _ (seen : ℕ → Bool) where
       → length (extractOf seen trace log) ≤ length l
       → at ≡ length (extractOf seen (take i trace) log)
       → before ≡ extractOf seen (take i trace) log ++ drop at l
-      → next ≡ at + length (lineAt seen (getD trace i 0) log (4 * i))
-      → after ≡ sets before at (lineAt seen (getD trace i 0) log (4 * i))
+      → next ≡ at + length (lineSeenAt seen (getD trace i 0) log (4 * i))
+      → after ≡ sets before at (lineSeenAt seen (getD trace i 0) log (4 * i))
       → (next ≡ length (extractOf seen (take (i + 1) trace) log)) × (after ≡ extractOf seen (take (i + 1) trace) log ++ drop next l)
   line-more trace log l i {before} {after} {at} {next} h fits place b n a =
       let done = extractOf seen (take i trace) log in
-      let line = lineAt seen (getD trace i 0) log (4 * i) in
+      let line = lineSeenAt seen (getD trace i 0) log (4 * i) in
       let room : at + length line ≤ length l = omega (arith, line-fits trace log i (length l) h fits) in (
         n ∙ ap (λ (k : ℕ). k + length line) place ∙ sym (length-append done line) ∙ sym (ap length (extract-more trace log i h)),
         a

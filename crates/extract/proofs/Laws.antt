@@ -13,14 +13,14 @@ use Rattle.policy.proofs.Truth.{either}
 use Rattle.scheduler.specs.Word.{classOf, isOffer, requestOf}
 use Rattle.scheduler.specs.Trace.{callOf}
 use Rattle.extract.specs.Seen.{callStays, stays, staying}
-use Rattle.extract.specs.Extract.{hideWord, ownerSeen, hideTurn, lineSeen, lineAt, extractOf}
+use Rattle.extract.specs.Extract.{hideWord, ownerSeen, hideTurn, lineSeen, lineSeenAt, extractOf}
 use Rattle.extract.specs.Laws.{ExtractLaws, PrintedExtracts}
 use Rattle.extract.proofs.Grown.{four-left, none-left, purge-yes, purge-no, extract-append}
 
 module _ (seen : ℕ → Bool) where
   -- what stands behind the four numbers of a line does not matter to it
-  own-line : (w : ℕ) (ls ms : List ℕ) → 3 < length ls → lineAt seen w (ls ++ ms) 0 ≡ lineAt seen w ls 0
-  unfolding lineAt
+  own-line : (w : ℕ) (ls ms : List ℕ) → 3 < length ls → lineSeenAt seen w (ls ++ ms) 0 ≡ lineSeenAt seen w ls 0
+  unfolding lineSeenAt
   own-line w ls ms h =
       rw (List·getD-append ls ms 0 0 (omega arith), List·getD-append ls ms 0 1 (omega arith), List·getD-append ls ms 0 2 (omega arith), List·getD-append ls ms 0 3 h)
 
@@ -42,7 +42,7 @@ module _ (seen : ℕ → Bool) where
   unfolding extractOf staying
   four-each [] log = refl
   four-each (w ∷ ws) log =
-      length-append (lineAt seen w log 0) (extractOf seen ws (drop 4 log))
+      length-append (lineSeenAt seen w log 0) (extractOf seen ws (drop 4 log))
       ∙ ⊎-elim
       (λ e. omega (arith, four-left seen w log 0 e, ap length (purge-yes seen w ws e), four-each ws (drop 4 log)))
       (λ e. omega (arith, ap length (none-left seen w log 0 e), ap length (purge-no seen w ws e), four-each ws (drop 4 log)))
@@ -52,5 +52,5 @@ module _ (seen : ℕ → Bool) where
   extract-laws = record { cut = cut; four-each = four-each }
 
 pub printed-extracts : PrintedExtracts
-unfolding classOf isOffer requestOf callOf callStays hideWord ownerSeen hideTurn lineSeen lineAt extractOf
+unfolding classOf isOffer requestOf callOf callStays hideWord ownerSeen hideTurn lineSeen lineSeenAt extractOf
 printed-extracts = record { whole = refl; blind = refl }

@@ -36,13 +36,13 @@ lineSeen seen Malformed s c a t = []
 -- ---- a log
 
 -- what is left of a trace number whose four log numbers stand from `from` on
-unfoldable pub lineAt : (ℕ → Bool) → ℕ → List ℕ → ℕ → List ℕ
-lineAt seen w log from = lineSeen seen (callOf w) (getD log from 0) (getD log (from + 1) 0) (getD log (from + 2) 0) (getD log (from + 3) 0)
+unfoldable pub lineSeenAt : (ℕ → Bool) → ℕ → List ℕ → ℕ → List ℕ
+lineSeenAt seen w log from = lineSeen seen (callOf w) (getD log from 0) (getD log (from + 1) 0) (getD log (from + 2) 0) (getD log (from + 3) 0)
 
 -- "Each trace number gives four log numbers": trace number by trace number
 unfoldable pub extractOf : (ℕ → Bool) → List ℕ → List ℕ → List ℕ
 extractOf seen [] log = []
-extractOf seen (w ∷ ws) log = lineAt seen w log 0 ++ extractOf seen ws (drop 4 log)
+extractOf seen (w ∷ ws) log = lineSeenAt seen w log 0 ++ extractOf seen ws (drop 4 log)
 
 -- ---- the call
 
@@ -51,18 +51,18 @@ unfoldable pub keptFor : Policy → ℕ → List ℕ → List ℕ → List ℕ
 keptFor p l trace log = extractOf (seenBy p l) trace log
 
 -- "extracts 13, 9, 17, 16": a policy out of range; "class not below n"; "log to extract not 4 times the trace"; "extract shorter than what is kept". 0 where none refuses it.
-unfoldable pub refusal : Policy → ℕ → List ℕ → List ℕ → List ℕ → ℕ
-refusal p l trace log out =
+unfoldable pub extractStatus : Policy → ℕ → List ℕ → List ℕ → List ℕ → ℕ
+extractStatus p l trace log out =
     cond (inRange p) (cond (isClass p l) (cond (eqb (length log) (4 * length trace)) (cond (leb (length (keptFor p l trace log)) (length out)) 0 16) 17) 9) 13
 
 -- "The call hands back how many numbers it wrote"; "a refused extract hands back a count of 0"
 unfoldable pub extract : Policy → ℕ → List ℕ → List ℕ → List ℕ → Extracted
 extract p l trace log out =
     record {
-      status = refusal p l trace log out;
-      count = cond (eqb (refusal p l trace log out) 0) (length (keptFor p l trace log)) 0;
+      status = extractStatus p l trace log out;
+      count = cond (eqb (extractStatus p l trace log out) 0) (length (keptFor p l trace log)) 0;
     }
 
 -- the numbers of `out` after the call: a refused one "writes nothing"; "Numbers past the written part stay"
 unfoldable pub outAfter : Policy → ℕ → List ℕ → List ℕ → List ℕ → List ℕ
-outAfter p l trace log out = cond (eqb (refusal p l trace log out) 0) (keptFor p l trace log ++ drop (length (keptFor p l trace log)) out) out
+outAfter p l trace log out = cond (eqb (extractStatus p l trace log out) 0) (keptFor p l trace log ++ drop (length (keptFor p l trace log)) out) out

@@ -10,7 +10,7 @@ ghost use Rattle.policy.specs.Below.{setOf};
 ghost use Rattle.policy.specs.Mask.{member};
 ghost use Rattle.scheduler.specs.Trace.{callOf};
 ghost use Rattle.extract.specs.Seen.{seenBy, stays, staying};
-ghost use Rattle.extract.specs.Extract.{hideWord, hideTurn, lineSeen, lineAt, extractOf, extract, outAfter};
+ghost use Rattle.extract.specs.Extract.{hideWord, hideTurn, lineSeen, lineSeenAt, extractOf, extract, outAfter};
 use policy::Policy;
 use policy::mask;
 use scheduler::trace::Call;
@@ -53,8 +53,7 @@ fn stays(seen: u16, word: u32) -> bool
 fn hide_word(seen: u16, word: u32) -> u32
     ensures { λ r. ⌜ r ≡ hideWord (member seen) word ⌝ }
 {
-    let r = words::request_of(word);
-    if mask::has(seen, r.class as usize) {
+    if mask::has(seen, words::class_of(word) as usize) {
         word
     } else {
         0
@@ -135,9 +134,9 @@ fn put_line(
 
 // Puts what may be seen of a trace number's four log numbers, which stand from `from` on, into `out` from `at` on. Answers where it ends.
 fn put_call(seen: u16, word: u32, log: &[u32], from: usize, out: &mut [u32], at: usize) -> usize
-    requires { ⌜ (from + 4 ≤ length (now log)) × (at + length (lineAt (member seen) word (now log) from) ≤ length (now out)) ⌝ }
-    ensures { λ r. ⌜ r ≡ at + length (lineAt (member seen) word (now (log .entry)) from) ⌝ }
-    ensures { λ r. ⌜ now (out .exit) ≡ sets (now (out .entry)) at (lineAt (member seen) word (now (log .entry)) from) ⌝ }
+    requires { ⌜ (from + 4 ≤ length (now log)) × (at + length (lineSeenAt (member seen) word (now log) from) ≤ length (now out)) ⌝ }
+    ensures { λ r. ⌜ r ≡ at + length (lineSeenAt (member seen) word (now (log .entry)) from) ⌝ }
+    ensures { λ r. ⌜ now (out .exit) ≡ sets (now (out .entry)) at (lineSeenAt (member seen) word (now (log .entry)) from) ⌝ }
 {
     if stays(seen, word) {
         put_line(
@@ -179,7 +178,7 @@ pub fn extract(p: Policy, class: u32, trace: &[u32], log: &[u32], out: &mut [u32
             count: 0,
         };
     }
-    if p.classes <= class as usize {
+    if !policy::order::is_class(p.classes, class as usize) {
         return Extracted {
             status: 9,
             count: 0,

@@ -18,9 +18,10 @@ use Rattle.scheduler.specs.declared.State.{State}
 use Rattle.scheduler.specs.declared.trace.Ran.{Ran}
 use Rattle.scheduler.specs.declared.trace.Call.{Call}
 use Rattle.scheduler.specs.declared.trace.Call.the-variants.{Tick, Offer, Malformed}
-use Rattle.scheduler.proofs.Listed.{cut-state, cut-log, four-each, after-in-range}
-use Rattle.scheduler.proofs.Sides.{ran, by-calls}
+use Rattle.scheduler.proofs.Calls.{cut-state, cut-log, four-each, after-in-range}
+use Rattle.scheduler.proofs.Run.{ran, by-calls}
 use Rattle.log.specs.Laws.{RunLaws}
+use Rattle.log.proofs.PublicCalls.{state-made, log-made}
 
 module _ (p : Policy) where
   pub one-call : (s : State) (t : Call) → FromFresh p s → FromFresh p (answer p s t .state)
@@ -100,4 +101,6 @@ module _ (p : Policy) where
         in-range-after = after-in-range p;
         one-call = single;
         cut-run = λ s xs ys log fit room. (cut-ran s xs ys log fit room, cut-logged s xs ys log fit room);
+        state-made = state-made p;
+        log-made = log-made p;
       }

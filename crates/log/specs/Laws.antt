@@ -10,6 +10,7 @@ use Rattle.scheduler.specs.Calls.{answerTo, stateAfter, logOf}
 use Rattle.scheduler.specs.Run.{hasRoom, run, logAfter}
 use Rattle.scheduler.specs.History.{FromFresh}
 use Rattle.scheduler.specs.declared.State.{State}
+use Rattle.log.specs.PublicCalls.{PublicCall, traceMade, stateMade, logMade}
 
 pub record RunLaws (p : Policy) : Type 0 where
   -- a list cut in two is the two one after the other
@@ -28,3 +29,6 @@ pub record RunLaws (p : Policy) : Type 0 where
   pub cut-run : (s : State) (xs ys log : List ℕ) → inRange p s ≡ true → hasRoom (xs ++ ys) log ≡ true
       → (run p s (xs ++ ys) log ≡ run p (run p s xs log .state) ys (drop (4 * length xs) log))
       × (logAfter p s (xs ++ ys) log ≡ take (4 * length xs) (logAfter p s xs log) ++ logAfter p (run p s xs log .state) ys (drop (4 * length xs) log))
+  -- a list of calls, however made, is the list of its trace numbers
+  pub state-made : (s : State) (cs : List PublicCall) → inRange p s ≡ true → stateMade p s cs ≡ stateAfter p s (traceMade cs)
+  pub log-made : (s : State) (cs : List PublicCall) → inRange p s ≡ true → logMade p s cs ≡ logOf p s (traceMade cs)

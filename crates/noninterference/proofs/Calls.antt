@@ -4,14 +4,17 @@ use mathlib.Core.Path.{_≡_, sym, ap, ap₂, _∙_, subst}
 use mathlib.Core.Logic.{⊎-elim}
 use mathlib.Core.Bool.{Bool, true, false}
 use mathlib.Core.List.{List, [], _∷_}
-use Prim.Native.Nat.{ℕ, _≤_}
+use Prim.Native.Nat.{ℕ}
 use lib.Dec.{ltb}
+use Rattle.policy.specs.Laws.{SmallClasses}
+use Rattle.policy.specs.Policy.{isClass}
 use Rattle.policy.specs.Policy.{inRange as policyInRange}
 use Rattle.policy.specs.declared.Policy.{Policy}
 use Rattle.policy.proofs.Truth.{either}
 use Rattle.policy.proofs.Laws.{policy-laws}
 use Rattle.scheduler.specs.Word.{commandNumber}
 use Rattle.scheduler.specs.Queue.{offerStatus, queuesAfter}
+use Rattle.scheduler.specs.Sizes.{lastCycle}
 use Rattle.scheduler.specs.Call.{offerOn, offer, silent, afterTick, tick}
 use Rattle.scheduler.specs.History.{Held}
 use Rattle.scheduler.specs.declared.Request.{Request}
@@ -19,24 +22,25 @@ use Rattle.scheduler.specs.declared.State.{State}
 use Rattle.scheduler.specs.declared.Offered.{Offered}
 use Rattle.scheduler.specs.declared.Ticked.{Ticked}
 use Rattle.scheduler.specs.declared.trace.Call.the-variants.{Tick}
-use Rattle.scheduler.proofs.Answers.{offer-is, tick-is, tick-late}
-use Rattle.scheduler.proofs.Whole.{whole}
+use Rattle.scheduler.proofs.Call.{offer-is, tick-is, tick-late}
+use Rattle.scheduler.proofs.RangeLaws.{ranged}
 use Rattle.extract.specs.Extract.{hideWord, hideTurn, lineSeen}
-use Rattle.noninterference.specs.Low.{Downward, QueuesAgree}
-use Rattle.noninterference.specs.Alike.{Alike}
+use Rattle.noninterference.proofs.Low.{Downward, QueuesAgree}
+use Rattle.noninterference.proofs.Alike.{Alike}
 use Rattle.noninterference.proofs.Offers.{same-status, offer-agrees, offer-unseen}
 use Rattle.noninterference.proofs.Ticks.{tick-alike, tick-command, tick-response, tick-turn}
 
 module _ (p : Policy) (given : policyInRange p ≡ true) (low : ℕ → Bool) (closed : Downward p low) where
-  few : p .classes ≤ 16
-  few = policy-laws p given .order .classes-few .1
+  few : SmallClasses (p .classes)
+  unfolding isClass
+  few = policy-laws p given .order .class-small
 
   module _ (s r : State) (h : Held p s) (g : Held p r) (alike : Alike p low s r) where
     count-s : p .classes ≡ s .classes
-    count-s = sym (whole p s (h .ranges) .same-count)
+    count-s = sym (ranged p s (h .ranges) .same-count)
 
     count-r : p .classes ≡ r .classes
-    count-r = sym (whole p r (g .ranges) .same-count)
+    count-r = sym (ranged p r (g .ranges) .same-count)
 
     -- ---- an offer of a low class in both
 
@@ -50,7 +54,7 @@ module _ (p : Policy) (given : policyInRange p ≡ true) (low : ℕ → Bool) (c
           queues =
               subst (λ (n : ℕ). QueuesAgree low (queuesAfter n (s .queues) o) (queuesAfter (r .classes) (r .queues) o)) count-s
               (subst (λ (n : ℕ). QueuesAgree low (queuesAfter (p .classes) (s .queues) o) (queuesAfter n (r .queues) o)) count-r
-              (offer-agrees (p .classes) few low (s .queues) (r .queues) o (whole p s (h .ranges) .queues-fit) (whole p r (g .ranges) .queues-fit) (alike .queues) i));
+              (offer-agrees (p .classes) few low (s .queues) (r .queues) o (ranged p s (h .ranges) .queues) (ranged p r (g .ranges) .queues) (alike .queues) i));
           turns = alike .turns;
           columns = alike .columns;
           responses = alike .responses;
@@ -65,7 +69,7 @@ module _ (p : Policy) (given : policyInRange p ≡ true) (low : ℕ → Bool) (c
         subst (λ (x : Offered). Alike p low (x .state) r) (sym (offer-is p s (h .ranges) o))
         (record {
           cycles = alike .cycles;
-          queues = λ c i. offer-unseen (s .classes) (subst (λ (n : ℕ). n ≤ 16) count-s few) low (s .queues) o high c i ∙ alike .queues c i;
+          queues = λ c i. offer-unseen (s .classes) (subst SmallClasses count-s few) low (s .queues) o high c i ∙ alike .queues c i;
           turns = alike .turns;
           columns = alike .columns;
           responses = alike .responses;
@@ -76,7 +80,7 @@ module _ (p : Policy) (given : policyInRange p ≡ true) (low : ℕ → Bool) (c
 
     pub both-tick : Alike p low (tick p s .state) (tick p r .state)
     both-tick =
-        let same-limit : ltb (s .cycle) 16777215 ≡ ltb (r .cycle) 16777215 = ap (λ (k : ℕ). ltb k 16777215) (alike .cycles) in
+        let same-limit : ltb (s .cycle) lastCycle ≡ ltb (r .cycle) lastCycle = ap (λ (k : ℕ). ltb k lastCycle) (alike .cycles) in
         ⊎-elim
         (λ e.
         subst (λ (x : Ticked). Alike p low (x .state) (tick p r .state)) (sym (tick-is p s (h .ranges) e))
@@ -84,7 +88,7 @@ module _ (p : Policy) (given : policyInRange p ≡ true) (low : ℕ → Bool) (c
         (λ e.
         subst (λ (x : Ticked). Alike p low (x .state) (tick p r .state)) (sym (tick-late p s (h .ranges) e))
         (subst (λ (x : Ticked). Alike p low s (x .state)) (sym (tick-late p r (g .ranges) (sym same-limit ∙ e))) alike))
-        (either (ltb (s .cycle) 16777215))
+        (either (ltb (s .cycle) lastCycle))
 
     -- ---- what is seen of their log lines
 
@@ -104,7 +108,7 @@ module _ (p : Policy) (given : policyInRange p ≡ true) (low : ℕ → Bool) (c
     pub tick-line : line (tick p s) ≡ line (tick p r)
     unfolding lineSeen afterTick silent
     tick-line =
-        let same-limit : ltb (s .cycle) 16777215 ≡ ltb (r .cycle) 16777215 = ap (λ (k : ℕ). ltb k 16777215) (alike .cycles) in
+        let same-limit : ltb (s .cycle) lastCycle ≡ ltb (r .cycle) lastCycle = ap (λ (k : ℕ). ltb k lastCycle) (alike .cycles) in
         ⊎-elim
         (λ e.
         let command = tick-command p given low closed s r h g alike in
@@ -115,4 +119,4 @@ module _ (p : Policy) (given : policyInRange p ≡ true) (low : ℕ → Bool) (c
         ∙ ap (λ (k : ℕ). 0 ∷ hideWord low (commandNumber (afterTick p r .shown .wires)) ∷ hideWord low (afterTick p r .shown .response) ∷ k ∷ []) turn
         ∙ sym (ap line (tick-is p r (g .ranges) (sym same-limit ∙ e))))
         (λ e. ap line (tick-late p s (h .ranges) e) ∙ sym (ap line (tick-late p r (g .ranges) (sym same-limit ∙ e))))
-        (either (ltb (s .cycle) 16777215))
+        (either (ltb (s .cycle) lastCycle))

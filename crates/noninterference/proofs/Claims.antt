@@ -4,38 +4,36 @@ use mathlib.Core.Path.{_≡_, refl, sym, ap, ap₂, _∙_, subst}
 use mathlib.Core.Logic.{⊎-elim}
 use mathlib.Core.Bool.{Bool, true, false, cond, not}
 use mathlib.Core.List.{List, [], _∷_, _++_}
-use Prim.Native.Nat.{ℕ, _*_, _<_}
-use borrow.Author.Tests.{eq-eqb, le-leb, lt-ltb}
+use Prim.Native.Nat.{ℕ, _*_}
+use borrow.Author.Tests.{eq-eqb, le-leb}
 use lib.Dec.{leb, eqb}
 use lib.ListN.{length, take, drop}
-use lib.Seq.{take-at, take-append-seam}
+use lib.Seq.{take-append-seam}
 use Rattle.policy.specs.Policy.{flows, isClass}
 use Rattle.policy.specs.Policy.{inRange as policyInRange}
 use Rattle.policy.specs.File.{readFile}
 use Rattle.policy.specs.Taken.{Bytes}
 use Rattle.policy.specs.declared.Policy.{Policy}
-use Rattle.policy.proofs.Truth.{either, not-both}
+use Rattle.policy.proofs.Truth.{either, not-both, on-true, on-false}
 use Rattle.policy.proofs.Laws.{policy-laws}
 use Rattle.policy.proofs.Taken.{taken-iff}
-use Rattle.scheduler.specs.Range.{freshState, zeroState, inRange}
+use Rattle.scheduler.specs.Range.{freshState, zeroState}
 use Rattle.scheduler.specs.Call.{fresh}
 use Rattle.scheduler.specs.Trace.{callOf}
 use Rattle.scheduler.specs.Calls.{stateAfter, logOf}
-use Rattle.scheduler.specs.Run.{hasRoom, run}
 use Rattle.scheduler.specs.declared.Made.{Made}
 use Rattle.scheduler.specs.declared.State.{State}
-use Rattle.scheduler.specs.declared.trace.Ran.{Ran}
 use Rattle.scheduler.specs.declared.trace.Call.{Call}
 use Rattle.scheduler.specs.declared.trace.Call.the-variants.{Tick, Offer, Malformed}
-use Rattle.scheduler.proofs.Climbing.{on-true, on-false}
 use Rattle.scheduler.proofs.Laws.{scheduler-laws}
-use Rattle.scheduler.proofs.Listed.{four-each}
-use Rattle.scheduler.proofs.Sides.{by-calls}
+use Rattle.scheduler.proofs.Calls.{four-each}
+use Rattle.log.specs.PublicCalls.{PublicCall, traceMade}
+use Rattle.log.proofs.Laws.{run-laws}
 use Rattle.extract.specs.Seen.{seenBy, callStays, stays, staying}
-use Rattle.extract.specs.Extract.{keptFor, refusal, extract, outAfter}
+use Rattle.extract.specs.Extract.{keptFor, extractStatus, extract, outAfter}
 use Rattle.extract.specs.declared.Extracted.{Extracted}
-use Rattle.noninterference.specs.Low.{Downward}
-use Rattle.noninterference.specs.Claim.{Accepted, stateOf, logFor, struck, purge, Agree, SameFor, Same, Noninterference, FilesAccepted, ranLog, SameRuns, RunsNoninterference}
+use Rattle.noninterference.proofs.Low.{Downward}
+use Rattle.noninterference.specs.Claim.{Accepted, stateFor, logFor, struck, purge, Agree, SameFor, Outcome, SameFrom, outcome, Same, Noninterference, made, CallsNoninterference, FilesAccepted}
 use Rattle.noninterference.proofs.Lists.{same-states, same-seen}
 
 -- the classes that may flow to L are closed downward
@@ -106,18 +104,14 @@ taken-part kept out false e =
     ap (λ (b : Bool). take (cond (eqb (cond b 0 16) 0) (length kept) 0) (cond (eqb (cond b 0 16) 0) (kept ++ drop (length kept) out) out)) e
     ∙ sym (ap (λ (b : Bool). cond b kept []) e)
 
-module _ (p : Policy) (given : policyInRange p ≡ true) (l : ℕ) (class : l < p .classes) where
-  is-class : isClass p l ≡ true
-  unfolding isClass
-  is-class = lt-ltb l (p .classes) class
-
+module _ (p : Policy) (given : policyInRange p ≡ true) (l : ℕ) (is-class : isClass p l ≡ true) where
   -- 13, 9 and 17 do not meet it
   module _ (xs log : List ℕ) (fits : length log ≡ 4 * length xs) (out : List ℕ) where
     abbrev kept : List ℕ
     kept = keptFor p l xs log
 
-    only-room : refusal p l xs log out ≡ room-status kept (length out)
-    unfolding refusal
+    only-room : extractStatus p l xs log out ≡ room-status kept (length out)
+    unfolding extractStatus
     only-room =
         ap (λ (b : Bool). cond b (cond (isClass p l) (cond (eqb (length log) (4 * length xs)) (room-status kept (length out)) 17) 9) 13) given
         ∙ ap (λ (b : Bool). cond b (cond (eqb (length log) (4 * length xs)) (room-status kept (length out)) 17) 9) is-class
@@ -149,7 +143,7 @@ module _ (p : Policy) (given : policyInRange p ≡ true) (l : ℕ) (class : l < 
     long : (zs : List ℕ) → length (logFor p zs) ≡ 4 * length zs
     long zs = four-each p (fresh p .state) zs
 
-    states : (c : ℕ) → flows p c l ≡ true → SameFor c (stateOf p xs) (stateOf p ys)
+    states : (c : ℕ) → flows p c l ≡ true → SameFor c (stateFor p xs) (stateFor p ys)
     unfolding seenBy
     states c f =
         subst (λ (s : State). SameFor c (stateAfter p s xs) (stateAfter p s ys)) (sym fresh-is)
@@ -170,42 +164,25 @@ module _ (p : Policy) (given : policyInRange p ≡ true) (l : ℕ) (class : l < 
           states = states;
         }
 
-    -- ---- of two runs
+  -- ---- however the calls are made
 
-    in-range-first : inRange p (fresh p .state) ≡ true
-    in-range-first = scheduler-laws p given .keeping .fresh-in-range
+  -- they come to what their trace numbers come to
+  as-numbers : (cs : List PublicCall) → made p cs ≡ outcome p (traceMade cs)
+  as-numbers cs =
+      let fit = scheduler-laws p given .keeping .fresh-in-range in
+      ap₂ (λ (log : List ℕ) (state : State). record { trace = traceMade cs; log = log; state = state })
+      (run-laws p .log-made (fresh p .state) cs fit) (run-laws p .state-made (fresh p .state) cs fit)
 
-    -- what a run left in its slice is the list's log
-    ran-log : (zs log : List ℕ) → hasRoom zs log ≡ true → ranLog p zs log ≡ logFor p zs
-    ran-log zs log room = ap (take (4 * length zs)) (by-calls p (fresh p .state) zs log in-range-first room .1) ∙ take-at (logFor p zs) (drop (4 * length zs) log) (4 * length zs) (long zs)
-
-    ran-state : (zs log : List ℕ) → hasRoom zs log ≡ true → run p (fresh p .state) zs log .state ≡ stateOf p zs
-    ran-state zs log room = ap (λ (r : Ran). r .state) (by-calls p (fresh p .state) zs log in-range-first room .0)
-
-    same-runs : (log₁ log₂ out₁ out₂ : List ℕ) → hasRoom xs log₁ ≡ true → hasRoom ys log₂ ≡ true → length out₁ ≡ length out₂ → SameRuns p l xs ys log₁ log₂ out₁ out₂
-    same-runs log₁ log₂ out₁ out₂ room₁ room₂ e =
-        let one = ran-log xs log₁ room₁ in
-        let two = ran-log ys log₂ room₂ in
-        record {
-          answers =
-              ap (λ (log : List ℕ). extract p l xs log out₁) one
-              ∙ same .answers out₁ out₂ e
-              ∙ sym (ap (λ (log : List ℕ). extract p l ys log out₂) two);
-          written =
-              ap (λ (log : List ℕ). take (extract p l xs log out₁ .count) (outAfter p l xs log out₁)) one
-              ∙ same .written out₁ out₂ e
-              ∙ sym (ap (λ (log : List ℕ). take (extract p l ys log out₂ .count) (outAfter p l ys log out₂)) two);
-          states =
-              λ c f.
-              subst (λ (s : State). SameFor c s (run p (fresh p .state) ys log₂ .state)) (sym (ran-state xs log₁ room₁))
-              (subst (SameFor c (stateOf p xs)) (sym (ran-state ys log₂ room₂)) (states c f));
-        }
+  same-made : (cs ds : List PublicCall) → Agree p l (traceMade cs) (traceMade ds) → SameFrom p l (made p cs) (made p ds)
+  same-made cs ds agree =
+      subst (λ (a : Outcome). SameFrom p l a (made p ds)) (sym (as-numbers cs))
+      (subst (SameFrom p l (outcome p (traceMade cs))) (sym (as-numbers ds)) (same (traceMade cs) (traceMade ds) agree))
 
 pub noninterference : Noninterference
 noninterference p ok l class xs ys agree = same p (accepted-fits p ok) l class xs ys agree
 
-pub runs-noninterference : RunsNoninterference
-runs-noninterference p ok l class xs ys agree log₁ log₂ out₁ out₂ room₁ room₂ e = same-runs p (accepted-fits p ok) l class xs ys agree log₁ log₂ out₁ out₂ room₁ room₂ e
+pub calls-noninterference : CallsNoninterference
+calls-noninterference p ok l class cs ds agree = same-made p (accepted-fits p ok) l class cs ds agree
 
 pub files-accepted : (file : List ℕ) → Bytes file → FilesAccepted file
 files-accepted file bytes none refused =

@@ -1,5 +1,9 @@
--- Laws that belong to no one function.
+-- What two runs have in common for some classes, and its laws.
 
+-- the classes that are looked at, and what two states' parts have in common for them
+pub mod Low
+-- two states that the low classes cannot tell apart
+pub mod Alike
 -- of the traversal and the lookahead in two runs, and so of a turn's start
 pub mod Walks
 -- of offers in two runs, or in one of them

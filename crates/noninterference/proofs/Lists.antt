@@ -7,21 +7,20 @@ use mathlib.Core.List.{List, [], _∷_, _++_}
 use Prim.Native.Nat.{ℕ}
 use Rattle.policy.specs.Policy.{inRange as policyInRange}
 use Rattle.policy.specs.declared.Policy.{Policy}
-use Rattle.policy.proofs.Truth.{either, not-both}
+use Rattle.policy.proofs.Truth.{either, not-both, on-true, on-false}
 use Rattle.scheduler.specs.Range.{freshState}
 use Rattle.scheduler.specs.History.{FromFresh, at-first}
 use Rattle.scheduler.specs.declared.State.{State}
-use Rattle.scheduler.proofs.Climbing.{on-true, on-false}
-use Rattle.scheduler.proofs.Steady.{held}
+use Rattle.scheduler.proofs.History.{held}
 use Rattle.scheduler.specs.Trace.{callOf}
 use Rattle.scheduler.specs.Calls.{Answer, answer, answerTo, stateAfter, logOf}
 use Rattle.scheduler.specs.declared.trace.Call.{Call}
 use Rattle.scheduler.specs.declared.trace.Call.the-variants.{Tick, Offer, Malformed}
 use Rattle.log.proofs.Laws.{one-call as reached}
-use Rattle.noninterference.specs.Low.{Downward, OwnersAgree}
-use Rattle.noninterference.specs.Alike.{Alike}
+use Rattle.noninterference.proofs.Low.{Downward, OwnersAgree}
+use Rattle.noninterference.proofs.Alike.{Alike}
 use Rattle.extract.specs.Seen.{callStays, stays, staying}
-use Rattle.extract.specs.Extract.{lineSeen, lineAt, extractOf}
+use Rattle.extract.specs.Extract.{lineSeen, lineSeenAt, extractOf}
 use Rattle.noninterference.proofs.Calls.{both-offer, one-offer, both-tick, offer-line, tick-line}
 
 -- a state is like itself
@@ -87,7 +86,7 @@ module _ (p : Policy) (given : policyInRange p ≡ true) (low : ℕ → Bool) (c
       (either (callStays low c))
 
   seen : (xs : List ℕ) (s r : State) → FromFresh p s → FromFresh p r → Alike p low s r → extractOf low xs (logOf p s xs) ≡ extractOf low (staying low xs) (logOf p r (staying low xs))
-  unfolding stays staying logOf answerTo extractOf lineAt
+  unfolding stays staying logOf answerTo extractOf lineSeenAt
   seen [] s r from to alike = refl
   seen (x ∷ xs) s r from to alike =
       let c = callOf x in

@@ -4,28 +4,28 @@ use mathlib.Core.Path.{_≡_, refl, sym, ap, _∙_, subst}
 use mathlib.Core.Logic.{⊎-elim}
 use mathlib.Core.Bool.{Bool, true, false, cond}
 use mathlib.Core.List.{List, [], _∷_, _++_}
-use Prim.Native.Nat.{ℕ, _≤_}
-use borrow.Author.Tests.{eqb-true, eqb-false}
+use Prim.Native.Nat.{ℕ}
 use lib.Dec.{ltb, eqb}
 use lib.ListN.{length, getD}
-use Rattle.policy.proofs.Truth.{either, not-both}
+use Rattle.policy.specs.Laws.{SmallClasses}
+use Rattle.policy.proofs.Truth.{either, not-both, on-true, on-false}
 use Rattle.policy.proofs.Below.{length-listOf}
+use Rattle.policy.proofs.Stores.{same-or-other}
 use Rattle.scheduler.specs.Word.{wordOf, classFits, bankAndKindFit}
 use Rattle.scheduler.specs.Queue.{lengthOf, waitingAt, waiting, enqueue, offerStatus, queuesAfter}
 use Rattle.scheduler.specs.declared.Request.{Request}
 use Rattle.scheduler.specs.declared.Queues.{Queues}
-use Rattle.scheduler.proofs.Climbing.{on-true, on-false}
-use Rattle.scheduler.proofs.Waiting.{enqueue-end, enqueue-beside}
-use Rattle.scheduler.proofs.Whole.{QueuesRange}
-use Rattle.scheduler.proofs.Kept.{taken, below-sixteen, room}
-use Rattle.noninterference.specs.Low.{QueuesAgree}
+use Rattle.scheduler.proofs.Queue.{enqueue-end, enqueue-beside}
+use Rattle.scheduler.proofs.RangeLaws.{QueuesRange}
+use Rattle.scheduler.proofs.CallsKept.{taken, below-sixteen, room}
+use Rattle.noninterference.proofs.Low.{QueuesAgree}
 
 -- how many wait, from who waits
 pub same-length : (q r : Queues) (c : ℕ) → waiting q c ≡ waiting r c → lengthOf q c ≡ lengthOf r c
 unfolding waiting
 same-length q r c e = sym (length-listOf (waitingAt q c) (lengthOf q c)) ∙ ap length e ∙ length-listOf (waitingAt r c) (lengthOf r c)
 
-module _ (n : ℕ) (few : n ≤ 16) (low : ℕ → Bool) where
+module _ (n : ℕ) (few : SmallClasses n) (low : ℕ → Bool) where
   -- the same status
   pub same-status : (q r : Queues) (o : Request) → QueuesAgree low q r → low (o .class) ≡ true → offerStatus n (q .lengths) o ≡ offerStatus n (r .lengths) o
   unfolding offerStatus lengthOf
@@ -49,15 +49,11 @@ module _ (n : ℕ) (few : n ≤ 16) (low : ℕ → Bool) where
       subst (λ (x : Queues). QueuesAgree low x (queuesAfter n r o)) (sym (on-true goes-q (enqueue q c w) q e))
       (subst (QueuesAgree low (enqueue q c w)) (sym (on-true goes-r (enqueue r c w) r e-r))
       (λ d j.
-      ⊎-elim
-      (λ t.
-      let at = eqb-true d c t in
-      subst (λ (k : ℕ). waiting (enqueue q c w) k ≡ waiting (enqueue r c w) k) (sym at)
+      same-or-other (λ k. waiting (enqueue q c w) k ≡ waiting (enqueue r c w) k) c d
       (enqueue-end q c small (range-q .slots-long) (range-q .heads-long) (range-q .lengths-long) w (room q c (fits-q .2))
       ∙ ap (λ (l : List ℕ). l ++ (w ∷ [])) (h c i)
-      ∙ sym (enqueue-end r c small (range-r .slots-long) (range-r .heads-long) (range-r .lengths-long) w (room r c (fits-r .2)))))
-      (λ f. enqueue-beside q c d (eqb-false d c f) w ∙ h d j ∙ sym (enqueue-beside r c d (eqb-false d c f) w))
-      (either (eqb d c)))))
+      ∙ sym (enqueue-end r c small (range-r .slots-long) (range-r .heads-long) (range-r .lengths-long) w (room r c (fits-r .2))))
+      (λ apart. enqueue-beside q c d apart w ∙ h d j ∙ sym (enqueue-beside r c d apart w)))))
       (λ e.
       let e-r = ap (λ (k : ℕ). eqb k 0) (sym same) ∙ e in
       subst (λ (x : Queues). QueuesAgree low x (queuesAfter n r o)) (sym (on-false goes-q (enqueue q c w) q e))

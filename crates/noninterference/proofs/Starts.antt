@@ -8,41 +8,40 @@ use native.Mathlib.Omega.{arith}
 use Rattle.policy.specs.Policy.{flows}
 use Rattle.policy.specs.Policy.{inRange as policyInRange}
 use Rattle.policy.specs.declared.Policy.{Policy}
-use Rattle.policy.proofs.Truth.{either, not-both, false-unless}
+use Rattle.policy.proofs.Truth.{either, not-both, false-unless, on-true, on-false}
 use Rattle.policy.proofs.Laws.{policy-laws}
 use Rattle.scheduler.specs.Queue.{lengthOf}
 use Rattle.scheduler.specs.Wire.{gapMet}
-use Rattle.scheduler.specs.Step.{turnStarts, turnNumber, startTurn, turnsAt}
+use Rattle.scheduler.specs.Step.{turnStarts, turnNumber, startTurn, turnsAt, TurnStart}
 use Rattle.scheduler.specs.History.{turnBefore, untilTurn, Activates, Held}
 use Rattle.scheduler.specs.declared.Turns.{Turns}
 use Rattle.scheduler.specs.declared.Flight.{Flight}
 use Rattle.scheduler.specs.declared.State.{State}
-use Rattle.scheduler.proofs.Climbing.{on-true, on-false}
-use Rattle.scheduler.proofs.Elision.{elision}
-use Rattle.scheduler.proofs.Whole.{whole}
+use Rattle.scheduler.proofs.LookaheadLaws.{elision}
+use Rattle.scheduler.proofs.RangeLaws.{ranged}
 use Rattle.scheduler.proofs.Calendar.{until-start, number-start}
-use Rattle.noninterference.specs.Low.{Downward, Agree, TurnsAgree, LastsAgree}
-use Rattle.noninterference.specs.Alike.{Alike}
+use Rattle.noninterference.proofs.Low.{Downward, EntriesAgree, TurnsAgree, LastsAgree}
+use Rattle.noninterference.proofs.Alike.{Alike}
 use Rattle.noninterference.proofs.Walks.{start-agrees}
 use Rattle.noninterference.proofs.Offers.{same-length}
 
 module _ (p : Policy) (given : policyInRange p ≡ true) (low : ℕ → Bool) (closed : Downward p low) where
   -- the owner that a turn's start picks
   abbrev picked : State → Turns
-  picked s = startTurn p (turnNumber p (s .cycle)) (s .queues .lengths) (s .turns .left) (s .turns .pointers)
+  picked s = startTurn p (turnNumber p (s .cycle)) (s .queues .lengths) (s .turns .left) (s .turns .pointers) .turns
 
   -- where a low owner follows a high one, the dead time was kept, so every gap is met
   rested : (s : State) → Held p s → turnStarts p (s .cycle) ≡ true → low (s .turns .owner) ≡ false → low (picked s .owner) ≡ true → Activates (λ last. gapMet last (p .timing .dead) (s .cycle) ≡ true) (s .flight)
   rested s h e high i =
       let t = s .cycle in
-      let w = whole p s (h .ranges) in
+      let w = ranged p s (h .ranges) in
       let two = policy-laws p given .timed .turn-bounds .0 in
       let now : t + untilTurn p t ≡ t = omega (arith, until-start p two t e .0) in
       let kept : s .turns .elided ≡ false =
       false-unless (s .turns .elided)
       (λ elided.
-      let on = elision p given (turnBefore p t) (s .turns .left) (s .turns .pointers) (s .turns .owner) (w .turns-fit .owner-class) (h .stands elided) (s .queues .lengths) in
-      let to = subst (λ (k : ℕ). flows p (s .turns .owner) (startTurn p k (s .queues .lengths) (s .turns .left) (s .turns .pointers) .owner) ≡ true) (sym (number-start p two t (h .begun elided) e)) on in
+      let on = elision p given (turnBefore p t) (s .turns .left) (s .turns .pointers) (s .turns .owner) (w .turns .owner-class) (h .stands elided) (s .queues .lengths) in
+      let to = subst (λ (k : ℕ). flows p (s .turns .owner) (startTurn p k (s .queues .lengths) (s .turns .left) (s .turns .pointers) .turns .owner) ≡ true) (sym (number-start p two t (h .begun elided) e)) on in
       not-both (closed (s .turns .owner) (picked s .owner) to i) high)
       in
       subst (λ (k : ℕ). Activates (λ last. gapMet last (p .timing .dead) k ≡ true) (s .flight)) now (h .rested kept)
@@ -58,15 +57,15 @@ module _ (p : Policy) (given : policyInRange p ≡ true) (low : ℕ → Bool) (c
 
     -- what a turn's start gives the second run, at the first one's cycle
     abbrev other : Turns
-    other = startTurn p (turnNumber p t) (r .queues .lengths) (r .turns .left) (r .turns .pointers)
+    other = startTurn p (turnNumber p t) (r .queues .lengths) (r .turns .left) (r .turns .pointers) .turns
 
-    same-lengths : Agree low (s .queues .lengths) (r .queues .lengths)
+    same-lengths : EntriesAgree low (s .queues .lengths) (r .queues .lengths)
     unfolding lengthOf
     same-lengths c i = same-length (s .queues) (r .queues) c (alike .queues c i)
 
     started : TurnsAgree low (picked s) other
     started =
-        start-agrees p given low closed (turnNumber p t) (s .queues .lengths) (r .queues .lengths) (s .turns) (r .turns) (whole p s (h .ranges) .turns-fit) (whole p r (g .ranges) .turns-fit)
+        start-agrees p given low closed (turnNumber p t) (s .queues .lengths) (r .queues .lengths) (s .turns) (r .turns) (ranged p s (h .ranges) .turns) (ranged p r (g .ranges) .turns)
         same-lengths (alike .turns .left) (alike .turns .pointers)
 
     -- a low owner after high ones
@@ -74,7 +73,7 @@ module _ (p : Policy) (given : policyInRange p ≡ true) (low : ℕ → Bool) (c
     afresh e high high-r i i-r =
         let one = rested s h e high i in
         let e-r = subst (λ (k : ℕ). turnStarts p k ≡ true) (alike .cycles) e in
-        let i-now = subst (λ (k : ℕ). low (startTurn p (turnNumber p k) (r .queues .lengths) (r .turns .left) (r .turns .pointers) .owner) ≡ true) (alike .cycles) i-r in
+        let i-now = subst (λ (k : ℕ). low (startTurn p (turnNumber p k) (r .queues .lengths) (r .turns .left) (r .turns .pointers) .turns .owner) ≡ true) (alike .cycles) i-r in
         let two = subst (λ (k : ℕ). Activates (λ last. gapMet last (p .timing .dead) k ≡ true) (r .flight)) (sym (alike .cycles)) (rested r g e-r high-r i-now) in
         record { of-all = inr (one .of-all, two .of-all); of-bank = λ b l. inr (one .of-bank b l, two .of-bank b l) }
 
@@ -93,14 +92,20 @@ module _ (p : Policy) (given : policyInRange p ≡ true) (low : ℕ → Bool) (c
         (alike .turns .owners))
         (either (low (s .turns .owner)))
 
-    pub begun : Begun t (turnsAt p t (s .queues .lengths) (s .turns)) (turnsAt p t (r .queues .lengths) (r .turns)) (s .flight) (r .flight)
+    pub begun : Begun t (turnsAt p t (s .queues .lengths) (s .turns) .turns) (turnsAt p t (r .queues .lengths) (r .turns) .turns) (s .flight) (r .flight)
     unfolding turnsAt
     begun =
+        let right : TurnStart → TurnStart → Type 0 = λ x y. Begun t (x .turns) (y .turns) (s .flight) (r .flight) in
+        let starts = turnStarts p t in
+        let start-s = startTurn p (turnNumber p t) (s .queues .lengths) (s .turns .left) (s .turns .pointers) in
+        let start-r = startTurn p (turnNumber p t) (r .queues .lengths) (r .turns .left) (r .turns .pointers) in
+        let stay-s : TurnStart = record { turns = s .turns; shown = 0 } in
+        let stay-r : TurnStart = record { turns = r .turns; shown = 0 } in
         ⊎-elim
         (λ e.
-        subst (λ (x : Turns). Begun t x (turnsAt p t (r .queues .lengths) (r .turns)) (s .flight) (r .flight)) (sym (on-true (turnStarts p t) (picked s) (s .turns) e))
-        (subst (λ (x : Turns). Begun t (picked s) x (s .flight) (r .flight)) (sym (on-true (turnStarts p t) other (r .turns) e)) (record { turns = started; lasts = start-lasts e })))
+        subst (λ (x : TurnStart). right x (turnsAt p t (r .queues .lengths) (r .turns))) (sym (on-true starts start-s stay-s e))
+        (subst (right start-s) (sym (on-true starts start-r stay-r e)) (record { turns = started; lasts = start-lasts e })))
         (λ e.
-        subst (λ (x : Turns). Begun t x (turnsAt p t (r .queues .lengths) (r .turns)) (s .flight) (r .flight)) (sym (on-false (turnStarts p t) (picked s) (s .turns) e))
-        (subst (λ (x : Turns). Begun t (s .turns) x (s .flight) (r .flight)) (sym (on-false (turnStarts p t) other (r .turns) e)) (record { turns = alike .turns; lasts = alike .lasts })))
-        (either (turnStarts p t))
+        subst (λ (x : TurnStart). right x (turnsAt p t (r .queues .lengths) (r .turns))) (sym (on-false starts start-s stay-s e))
+        (subst (right stay-s) (sym (on-false starts start-r stay-r e)) (record { turns = alike .turns; lasts = alike .lasts })))
+        (either starts)

@@ -4,45 +4,41 @@ use mathlib.Core.Path.{_≡_, refl, sym, ap, ap₂, _∙_, subst}
 use mathlib.Core.Logic.{⊎-elim}
 use mathlib.Core.Bool.{Bool, true, false, cond, not, _&&_}
 use Prim.Native.Nat.{ℕ, _+_, _-_, _%_, _<_}
-use native.Mathlib.Nat.{lt-of-lt-of-le, not-suc-le-zero}
+use native.Mathlib.Nat.{not-suc-le-zero}
 use native.Mathlib.Omega.{arith}
 use borrow.Author.Tests.{ne-eqb}
 use lib.Dec.{eqb, lit<}
 use lib.ListN.{length, length-set}
 use Rattle.policy.specs.Policy.{inRange as policyInRange}
-use Rattle.policy.specs.declared.Timing.{Timing}
 use Rattle.policy.specs.declared.Policy.{Policy}
 use Rattle.policy.proofs.Truth.{not-both, and-fails-right}
 use Rattle.policy.proofs.Laws.{policy-laws}
 use Rattle.scheduler.specs.Word.{classOf, commandNumber}
-use Rattle.scheduler.specs.Queue.{waitingAt}
 use Rattle.scheduler.specs.Wire.{dueAt, sentAt, activated}
-use Rattle.scheduler.specs.Step.{turnStarts, turnsAt, turnWord, Driven, drive, answered}
-use Rattle.scheduler.specs.Call.{turnShown, afterTick}
+use Rattle.scheduler.specs.Step.{turnStarts, turnWord, TurnStart, turnsAt, Driven, Bus, going, drive, answered}
+use Rattle.scheduler.specs.Call.{afterTick}
 use Rattle.scheduler.specs.History.{Held}
 use Rattle.scheduler.specs.declared.Wires.{Wires}
-use Rattle.scheduler.specs.declared.Queues.{Queues}
 use Rattle.scheduler.specs.declared.Turns.{Turns}
-use Rattle.scheduler.specs.declared.Flight.{Flight}
 use Rattle.scheduler.specs.declared.State.{State}
-use Rattle.scheduler.proofs.Flying.{outcome}
-use Rattle.scheduler.proofs.Charged.{turns-kept}
-use Rattle.scheduler.proofs.Pending.{inside}
-use Rattle.scheduler.proofs.Whole.{FlightRange, Whole, whole}
-use Rattle.scheduler.proofs.Steady.{Midway, midway}
+use Rattle.scheduler.proofs.Step.{outcome, turn-shown}
+use Rattle.scheduler.proofs.TurnsKept.{turns-kept}
+use Rattle.scheduler.proofs.PendingWords.{inside}
+use Rattle.scheduler.proofs.RangeLaws.{Ranged, ranged, BusRange, bus-range}
+use Rattle.scheduler.proofs.History.{Midway, midway}
 use Rattle.extract.specs.Extract.{hideWord, ownerSeen, hideTurn}
-use Rattle.noninterference.specs.Low.{Downward, QueuesAgree, PendingAgree, LastsAgree}
-use Rattle.noninterference.specs.Alike.{Alike}
+use Rattle.noninterference.proofs.Low.{Downward, QueuesAgree, PendingAgree, LastsAgree}
+use Rattle.noninterference.proofs.Alike.{Alike}
 use Rattle.noninterference.proofs.Flights.{stored-both}
 use Rattle.noninterference.proofs.Starts.{Begun, begun}
 use Rattle.noninterference.proofs.Quiet.{hidden-none, hidden-low, columnShown, quiet-queues, quiet-columns, quiet-responses, quiet-command}
-use Rattle.noninterference.proofs.Shared.{Shared, shared}
+use Rattle.noninterference.proofs.Shared.{beside, Shared, shared}
 
 -- the second step keeps as many places for responses
-still-long : (timing : Timing) (t owner : ℕ) (elided : Bool) (q : Queues) (f : Flight) → length (f .responses) ≡ 32 → length (drive timing t owner elided q f .flight .responses) ≡ 32
+still-long : (b : Bus) → length (b .flight .responses) ≡ 32 → length (drive b .flight .responses) ≡ 32
 unfolding activated
-still-long timing t owner elided q f long =
-    outcome timing t owner elided q f (λ d. length (d .flight .responses) ≡ 32) (λ due. long) (λ due e. length-set (f .responses) ((t + timing .response) % 32) (waitingAt q owner 0) ∙ long) (λ due stays. long)
+still-long b long =
+    outcome b (λ d. length (d .flight .responses) ≡ 32) (λ due. long) (λ due e. length-set (b .flight .responses) ((b .cycle + b .timing .response) % 32) (going b) ∙ long) (λ due stays. long)
 
 -- the owner that a turn number names
 named-owner : (owner : ℕ) (elided : Bool) → owner < 16 → (1 + owner + cond elided 256 0) % 256 - 1 ≡ owner
@@ -65,12 +61,18 @@ unseen-turn low true owner elided small high = high-turn low owner elided small 
 unseen-turn low false owner elided small high = refl
 
 module _ (p : Policy) (given : policyInRange p ≡ true) (low : ℕ → Bool) (closed : Downward p low) where
-  -- what the second step leaves, at a cycle told apart from the state's
+  -- the turns and the command bus, at a cycle told apart from the state's
+  abbrev startOf : ℕ → State → TurnStart
+  startOf t s = turnsAt p t (s .queues .lengths) (s .turns)
+
   abbrev turnsOf : ℕ → State → Turns
-  turnsOf t s = turnsAt p t (s .queues .lengths) (s .turns)
+  turnsOf t s = startOf t s .turns
+
+  abbrev busOf : ℕ → State → Bus
+  busOf t s = record { timing = p .timing; cycle = t; owner = turnsOf t s .owner; elided = turnsOf t s .elided; queues = s .queues; flight = s .flight }
 
   abbrev drivenOf : ℕ → State → Driven
-  drivenOf t s = drive (p .timing) t (turnsOf t s .owner) (turnsOf t s .elided) (s .queues) (s .flight)
+  drivenOf t s = drive (busOf t s)
 
   -- the queues and what is pending, once the second step is done
   record Driving (t : ℕ) (s r : State) (d e : Driven) : Type 0 where
@@ -93,14 +95,11 @@ module _ (p : Policy) (given : policyInRange p ≡ true) (low : ℕ → Bool) (c
     abbrev t : ℕ
     t = s .cycle
 
-    ws : Whole p s
-    ws = whole p s (h .ranges)
+    ws : Ranged p s
+    ws = ranged p s (h .ranges)
 
-    wr : Whole p r
-    wr = whole p r (g .ranges)
-
-    flight-r : FlightRange (p .classes) (p .timing) t (r .flight)
-    flight-r = subst (λ (k : ℕ). FlightRange (p .classes) (p .timing) k (r .flight)) (sym (alike .cycles)) (wr .flight-fit)
+    wr : Ranged p r
+    wr = ranged p r (g .ranges)
 
     midway-r : Midway p given t (turnsOf t r) (r .flight)
     midway-r = subst (λ (k : ℕ). Midway p given k (turnsOf k r) (r .flight)) (sym (alike .cycles)) (midway p given r g)
@@ -108,14 +107,17 @@ module _ (p : Policy) (given : policyInRange p ≡ true) (low : ℕ → Bool) (c
     start : Begun p given low closed t (turnsOf t s) (turnsOf t r) (s .flight) (r .flight)
     start = begun p given low closed s r h g alike
 
-    small-s : turnsOf t s .owner < 16
-    small-s = lt-of-lt-of-le (turns-kept p given t (s .queues .lengths) (s .turns) (ws .turns-fit) .owner-class) (policy-laws p given .order .classes-few .1)
+    small : (x : State) → Ranged p x → (k : ℕ) → turnsOf k x .owner < 16
+    small x w k = policy-laws p given .order .class-small (turnsOf k x .owner) (turns-kept p given k (x .queues .lengths) (x .turns) (w .turns) .owner-class)
 
-    small-r : turnsOf t r .owner < 16
-    small-r = lt-of-lt-of-le (turns-kept p given t (r .queues .lengths) (r .turns) (wr .turns-fit) .owner-class) (policy-laws p given .order .classes-few .1)
+    bus-s : BusRange (p .classes) (busOf t s)
+    bus-s = bus-range p s ws (turnsOf t s) (small s ws t)
+
+    bus-r : BusRange (p .classes) (busOf t r)
+    bus-r = subst (λ (k : ℕ). BusRange (p .classes) (busOf k r)) (sym (alike .cycles)) (bus-range p r wr (turnsOf (r .cycle) r) (small r wr (r .cycle)))
 
     -- at the same low owner
-    low-drive : turnsOf t s .owner ≡ turnsOf t r .owner → low (turnsOf t s .owner) ≡ true → Shared low (p .classes) (p .timing) t (turnsOf t s .owner) (turnsOf t s .elided) (s .queues) (r .queues) (s .flight) (r .flight) (policy-laws p given .timed) small-s (drivenOf t s) (drivenOf t r)
+    low-drive : turnsOf t s .owner ≡ turnsOf t r .owner → low (turnsOf t s .owner) ≡ true → Shared low (p .classes) (busOf t s) (r .queues) (r .flight) (drivenOf t s) (drivenOf t r)
     unfolding dueAt
     low-drive same i =
         let due =
@@ -123,37 +125,24 @@ module _ (p : Policy) (given : policyInRange p ≡ true) (low : ℕ → Bool) (c
         ∙ alike .columns (t % 32)
         ∙ seen t (turnsOf t r) r midway-r (ap low (sym same) ∙ i)
         in
-        let second : drive (p .timing) t (turnsOf t s .owner) (turnsOf t s .elided) (r .queues) (r .flight) ≡ drivenOf t r =
-        ap₂ (λ (o : ℕ) (b : Bool). drive (p .timing) t o b (r .queues) (r .flight)) same (start .turns .elisions i)
-        in
-        subst (Shared low (p .classes) (p .timing) t (turnsOf t s .owner) (turnsOf t s .elided) (s .queues) (r .queues) (s .flight) (r .flight) (policy-laws p given .timed) small-s (drivenOf t s)) second
-        (shared low (p .classes) (p .timing) t (turnsOf t s .owner) (turnsOf t s .elided) (s .queues) (r .queues) (s .flight) (r .flight) (policy-laws p given .timed) small-s
-        (ws .queues-fit) (wr .queues-fit) (ws .flight-fit) flight-r (alike .queues) (alike .columns) (alike .responses) (start .lasts i) i due)
+        let other = beside (busOf t s) (r .queues) (r .flight) in
+        let with-turns : ℕ → Bool → Bus = λ o e. record { timing = p .timing; cycle = t; owner = o; elided = e; queues = r .queues; flight = r .flight } in
+        let second : other ≡ busOf t r = ap₂ with-turns same (start .turns .elisions i) in
+        subst (λ (x : Bus). Shared low (p .classes) (busOf t s) (r .queues) (r .flight) (drivenOf t s) (drive x)) second
+        (shared low (p .classes) (busOf t s) (r .queues) (r .flight) bus-s (subst (BusRange (p .classes)) (sym second) bus-r) (alike .queues) (alike .columns) (alike .responses) (start .lasts i) i due)
 
     -- at high owners
     high-drive : low (turnsOf t s .owner) ≡ false → low (turnsOf t r .owner) ≡ false → Driving t s r (drivenOf t s) (drivenOf t r)
     unfolding sentAt
     high-drive one two =
-        let timed = policy-laws p given .timed in
+        let n = p .classes in
         let sent =
-        stored-both low (s .flight .columns) (r .flight .columns) (t % 32) 0 0 (inside (s .flight .columns) (ws .flight-fit .columns-long) t) (inside (r .flight .columns) (flight-r .columns-long) t) refl (alike .columns)
+        stored-both low (s .flight .columns) (r .flight .columns) (t % 32) 0 0 (inside (s .flight .columns) (bus-s .flight .columns-long) t) (inside (r .flight .columns) (bus-r .flight .columns-long) t) refl (alike .columns)
         in
         record {
-          queues =
-              λ c i.
-              quiet-queues low (p .classes) (p .timing) t (turnsOf t s .owner) (turnsOf t s .elided) (s .queues) (s .flight) timed small-s (ws .queues-fit) (ws .flight-fit) one c i
-              ∙ alike .queues c i
-              ∙ sym (quiet-queues low (p .classes) (p .timing) t (turnsOf t r .owner) (turnsOf t r .elided) (r .queues) (r .flight) timed small-r (wr .queues-fit) flight-r two c i);
-          columns =
-              λ i.
-              quiet-columns low (p .classes) (p .timing) t (turnsOf t s .owner) (turnsOf t s .elided) (s .queues) (s .flight) timed small-s (ws .queues-fit) (ws .flight-fit) one i
-              ∙ sent i
-              ∙ sym (quiet-columns low (p .classes) (p .timing) t (turnsOf t r .owner) (turnsOf t r .elided) (r .queues) (r .flight) timed small-r (wr .queues-fit) flight-r two i);
-          responses =
-              λ i.
-              quiet-responses low (p .classes) (p .timing) t (turnsOf t s .owner) (turnsOf t s .elided) (s .queues) (s .flight) timed small-s (ws .queues-fit) (ws .flight-fit) one i
-              ∙ alike .responses i
-              ∙ sym (quiet-responses low (p .classes) (p .timing) t (turnsOf t r .owner) (turnsOf t r .elided) (r .queues) (r .flight) timed small-r (wr .queues-fit) flight-r two i);
+          queues = λ c i. quiet-queues low n (busOf t s) bus-s one c i ∙ alike .queues c i ∙ sym (quiet-queues low n (busOf t r) bus-r two c i);
+          columns = λ i. quiet-columns low n (busOf t s) bus-s one i ∙ sent i ∙ sym (quiet-columns low n (busOf t r) bus-r two i);
+          responses = λ i. quiet-responses low n (busOf t s) bus-s one i ∙ alike .responses i ∙ sym (quiet-responses low n (busOf t r) bus-r two i);
           lasts = λ i. absurd (not-both i one);
         }
 
@@ -172,8 +161,8 @@ module _ (p : Policy) (given : policyInRange p ≡ true) (low : ℕ → Bool) (c
     unfolding answered sentAt
     later-alike =
         let d = driving in
-        let long-s = still-long (p .timing) t (turnsOf t s .owner) (turnsOf t s .elided) (s .queues) (s .flight) (ws .flight-fit .responses-long) in
-        let long-r = still-long (p .timing) t (turnsOf t r .owner) (turnsOf t r .elided) (r .queues) (r .flight) (flight-r .responses-long) in
+        let long-s = still-long (busOf t s) (bus-s .flight .responses-long) in
+        let long-r = still-long (busOf t r) (bus-r .flight .responses-long) in
         record {
           cycles = refl;
           queues = d .queues;
@@ -197,13 +186,12 @@ module _ (p : Policy) (given : policyInRange p ≡ true) (low : ℕ → Bool) (c
     commands : hideWord low (commandNumber (drivenOf t s .wires)) ≡ hideWord low (commandNumber (drivenOf t r .wires))
     unfolding dueAt
     commands =
-        let timed = policy-laws p given .timed in
         ⊎-elim
         (λ both. ap (λ (w : Wires). hideWord low (commandNumber w)) (low-drive (both .0) (both .1) .wires))
         (λ both.
-        quiet-command low (p .classes) (p .timing) t (turnsOf t s .owner) (turnsOf t s .elided) (s .queues) (s .flight) timed small-s (ws .queues-fit) (ws .flight-fit) (both .0)
+        quiet-command low (p .classes) (busOf t s) bus-s (both .0)
         ∙ ap columnShown (alike .columns (t % 32))
-        ∙ sym (quiet-command low (p .classes) (p .timing) t (turnsOf t r .owner) (turnsOf t r .elided) (r .queues) (r .flight) timed small-r (wr .queues-fit) flight-r (both .1)))
+        ∙ sym (quiet-command low (p .classes) (busOf t r) bus-r (both .1)))
         (start .turns .owners)
 
     pub tick-command : hideWord low (commandNumber (afterTick p s .shown .wires)) ≡ hideWord low (commandNumber (afterTick p r .shown .wires))
@@ -211,14 +199,20 @@ module _ (p : Policy) (given : policyInRange p ≡ true) (low : ℕ → Bool) (c
     tick-command = subst (λ (k : ℕ). hideWord low (commandNumber (drivenOf t s .wires)) ≡ hideWord low (commandNumber (drivenOf k r .wires))) (alike .cycles) commands
 
     -- and of the turn
-    turns-shown : hideTurn low (turnShown p t (turnsOf t s)) ≡ hideTurn low (turnShown p t (turnsOf t r))
-    unfolding turnShown
+    turns-shown : hideTurn low (startOf t s .shown) ≡ hideTurn low (startOf t r .shown)
     turns-shown =
-        ⊎-elim
-        (λ both. ap₂ (λ (o : ℕ) (b : Bool). hideTurn low (cond (turnStarts p t) (turnWord o b) 0)) (both .0) (start .turns .elisions (both .1)))
-        (λ both. unseen-turn low (turnStarts p t) (turnsOf t s .owner) (turnsOf t s .elided) small-s (both .0) ∙ sym (unseen-turn low (turnStarts p t) (turnsOf t r .owner) (turnsOf t r .elided) small-r (both .1)))
+        let starts = turnStarts p t in
+        let shown-s = ap (hideTurn low) (turn-shown p t (s .queues .lengths) (s .turns)) in
+        let shown-r = ap (hideTurn low) (turn-shown p t (r .queues .lengths) (r .turns)) in
+        shown-s
+        ∙ ⊎-elim
+        (λ both. ap₂ (λ (o : ℕ) (b : Bool). hideTurn low (cond starts (turnWord o b) 0)) (both .0) (start .turns .elisions (both .1)))
+        (λ both.
+        unseen-turn low starts (turnsOf t s .owner) (turnsOf t s .elided) (bus-s .owner-small) (both .0)
+        ∙ sym (unseen-turn low starts (turnsOf t r .owner) (turnsOf t r .elided) (bus-r .owner-small) (both .1)))
         (start .turns .owners)
+        ∙ sym shown-r
 
     pub tick-turn : hideTurn low (afterTick p s .shown .turn) ≡ hideTurn low (afterTick p r .shown .turn)
     unfolding afterTick
-    tick-turn = subst (λ (k : ℕ). hideTurn low (turnShown p t (turnsOf t s)) ≡ hideTurn low (turnShown p k (turnsOf k r))) (alike .cycles) turns-shown
+    tick-turn = subst (λ (k : ℕ). hideTurn low (startOf t s .shown) ≡ hideTurn low (startOf k r .shown)) (alike .cycles) turns-shown

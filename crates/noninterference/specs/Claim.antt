@@ -1,23 +1,22 @@
--- Demand 3: noninterference. It is one claim about two lists of trace numbers as wholes, for every accepted policy and every class L. It is put together from the
--- definitions that the contracts of demand 2 cite: `fresh`, `callOf`, `logOf` and `stateAfter` (scheduler: Call, Trace, Calls), `extract` (extract: Extract), `run` and
--- `logAfter` (scheduler: Run). That calls made singly, inside one run or in several are one and the same list of calls is said in the crate `log` (`RunLaws`: `one-call`,
--- `cut-run`).
+-- Demand 3: noninterference. It is one claim about two lists of trace numbers as wholes, for every accepted policy and every class L, and then of two lists of calls however
+-- a program makes them. It is put together from the definitions that the contracts of demand 2 cite: `fresh`, `callOf`, `logOf` and `stateAfter` (scheduler: Call, Trace,
+-- Calls), `extract` (extract: Extract), and `tick`, `offer`, `run` and `logAfter` (scheduler: Call and Run, by log: PublicCalls).
 use mathlib.Core.Path.{_≡_}
 use mathlib.Core.Bool.{Bool, true, false, not}
 use mathlib.Core.List.{List, [], _∷_}
-use Prim.Native.Nat.{ℕ, _*_, _≤_, _<_}
+use Prim.Native.Nat.{ℕ, _≤_}
 use lib.ListN.{length, getD, take}
-use Rattle.policy.specs.Policy.{flows}
+use Rattle.policy.specs.Policy.{isClass, flows}
 use Rattle.policy.specs.File.{readFile}
 use Rattle.policy.specs.declared.Policy.{Policy}
 use Rattle.scheduler.specs.Queue.{waiting}
 use Rattle.scheduler.specs.Call.{fresh}
 use Rattle.scheduler.specs.Trace.{callOf}
 use Rattle.scheduler.specs.Calls.{stateAfter, logOf}
-use Rattle.scheduler.specs.Run.{hasRoom, run, logAfter}
 use Rattle.scheduler.specs.declared.State.{State}
 use Rattle.scheduler.specs.declared.trace.Call.{Call}
 use Rattle.scheduler.specs.declared.trace.Call.the-variants.{Tick, Offer, Malformed}
+use Rattle.log.specs.PublicCalls.{PublicCall, traceMade, stateMade, logMade}
 use Rattle.extract.specs.Extract.{keptFor, extract, outAfter}
 
 -- "A policy is accepted if a fresh state asked of it does not get 13"
@@ -25,8 +24,8 @@ abbrev pub Accepted : Policy → Type 0
 Accepted p = fresh p .status ≡ 13 → ⊥
 
 -- "It starts from the policy's fresh state; each call gets that policy and the state which the one before handed back."
-abbrev pub stateOf : Policy → List ℕ → State
-stateOf p xs = stateAfter p (fresh p .state) xs
+abbrev pub stateFor : Policy → List ℕ → State
+stateFor p xs = stateAfter p (fresh p .state) xs
 
 -- "A list's log is the four numbers of each call in order, as one run over the whole list writes them."
 abbrev pub logFor : Policy → List ℕ → List ℕ
@@ -53,43 +52,52 @@ pub record SameFor (c : ℕ) (s r : State) : Type 0 where
   pub left : getD (s .turns .left) c 0 ≡ getD (r .turns .left) c 0
   pub pointer : getD (s .turns .pointers) c 0 ≡ getD (r .turns .pointers) c 0
 
--- what two lists have in common for class L
-pub record Same (p : Policy) (l : ℕ) (xs ys : List ℕ) : Type 0 where
+-- what a list of calls comes to: its trace numbers, its log and the state after it
+pub record Outcome : Type 0 where
+  pub trace : List ℕ
+  pub log : List ℕ
+  pub state : State
+
+-- what two of them have in common for class L
+pub record SameFrom (p : Policy) (l : ℕ) (a b : Outcome) : Type 0 where
   -- "the extracts of the two logs for L .. write the same numbers": the numbers that are kept of each log
-  pub numbers : keptFor p l xs (logFor p xs) ≡ keptFor p l ys (logFor p ys)
+  pub numbers : keptFor p l (a .trace) (a .log) ≡ keptFor p l (b .trace) (b .log)
   -- "with room enough" an extract is not refused
-  pub enough : (out : List ℕ) → length (keptFor p l xs (logFor p xs)) ≤ length out → extract p l xs (logFor p xs) out .status ≡ 0
+  pub enough : (out : List ℕ) → length (keptFor p l (a .trace) (a .log)) ≤ length out → extract p l (a .trace) (a .log) out .status ≡ 0
   -- they "hand back the same count"; "given equal room, 16 meets both or neither": the same status and the same count, whatever the room and what lies in it
-  pub answers : (one two : List ℕ) → length one ≡ length two → extract p l xs (logFor p xs) one ≡ extract p l ys (logFor p ys) two
+  pub answers : (one two : List ℕ) → length one ≡ length two → extract p l (a .trace) (a .log) one ≡ extract p l (b .trace) (b .log) two
   -- and so the written part of the two is the same
   pub written : (one two : List ℕ) → length one ≡ length two
-      → take (extract p l xs (logFor p xs) one .count) (outAfter p l xs (logFor p xs) one) ≡ take (extract p l ys (logFor p ys) two .count) (outAfter p l ys (logFor p ys) two)
+      → take (extract p l (a .trace) (a .log) one .count) (outAfter p l (a .trace) (a .log) one) ≡ take (extract p l (b .trace) (b .log) two .count) (outAfter p l (b .trace) (b .log) two)
   -- "For each class that may flow to L, equal in the states after the two lists are .."
-  pub states : (c : ℕ) → flows p c l ≡ true → SameFor c (stateOf p xs) (stateOf p ys)
+  pub states : (c : ℕ) → flows p c l ≡ true → SameFor c (a .state) (b .state)
+
+-- of two lists of trace numbers
+abbrev pub outcome : Policy → List ℕ → Outcome
+outcome p xs = record { trace = xs; log = logFor p xs; state = stateFor p xs }
+
+abbrev pub Same : Policy → ℕ → List ℕ → List ℕ → Type 0
+Same p l xs ys = SameFrom p l (outcome p xs) (outcome p ys)
 
 -- the claim. A list has any length and any trace numbers in it.
 abbrev pub Noninterference : Type 0
-Noninterference = (p : Policy) → Accepted p → (l : ℕ) → l < p .classes → (xs ys : List ℕ) → Agree p l xs ys → Same p l xs ys
+Noninterference = (p : Policy) → Accepted p → (l : ℕ) → isClass p l ≡ true → (xs ys : List ℕ) → Agree p l xs ys → Same p l xs ys
+
+-- ---- the calls as a program makes them
+
+-- "The calls of demand 3 are ticks and offers, made singly or inside one run or several, and malformed words, which get 14 inside a run; each is one trace number, and
+-- refused ones count. A run refused with 15 makes none." The log is what the single calls answer and the runs write into the slices that they are handed.
+abbrev pub made : Policy → List PublicCall → Outcome
+made p cs = record { trace = traceMade cs; log = logMade p (fresh p .state) cs; state = stateMade p (fresh p .state) cs }
+
+-- the claim of two lists of them
+abbrev pub CallsNoninterference : Type 0
+CallsNoninterference =
+    (p : Policy) → Accepted p → (l : ℕ) → isClass p l ≡ true → (cs ds : List PublicCall) → Agree p l (traceMade cs) (traceMade ds)
+    → SameFrom p l (made p cs) (made p ds)
 
 -- ---- beside it
 
 -- "each whose file gets none of 1 to 8 is" accepted
 abbrev pub FilesAccepted : List ℕ → Type 0
 FilesAccepted file = readFile file .status ≡ 0 → Accepted (readFile file .policy)
-
--- the log that a run left in its slice, as an extract is handed it
-abbrev pub ranLog : Policy → List ℕ → List ℕ → List ℕ
-ranLog p xs log = take (4 * length xs) (logAfter p (fresh p .state) xs log)
-
--- the claim of what the contracts of `run` and `extract` say they hand back and write: two traces, each run from the fresh state into a log slice with room for it, and
--- the extract of what was written there
-pub record SameRuns (p : Policy) (l : ℕ) (xs ys log₁ log₂ out₁ out₂ : List ℕ) : Type 0 where
-  pub answers : extract p l xs (ranLog p xs log₁) out₁ ≡ extract p l ys (ranLog p ys log₂) out₂
-  pub written : take (extract p l xs (ranLog p xs log₁) out₁ .count) (outAfter p l xs (ranLog p xs log₁) out₁)
-      ≡ take (extract p l ys (ranLog p ys log₂) out₂ .count) (outAfter p l ys (ranLog p ys log₂) out₂)
-  pub states : (c : ℕ) → flows p c l ≡ true → SameFor c (run p (fresh p .state) xs log₁ .state) (run p (fresh p .state) ys log₂ .state)
-
-abbrev pub RunsNoninterference : Type 0
-RunsNoninterference =
-    (p : Policy) → Accepted p → (l : ℕ) → l < p .classes → (xs ys : List ℕ) → Agree p l xs ys
-    → (log₁ log₂ out₁ out₂ : List ℕ) → hasRoom xs log₁ ≡ true → hasRoom ys log₂ ≡ true → length out₁ ≡ length out₂ → SameRuns p l xs ys log₁ log₂ out₁ out₂

@@ -4,15 +4,14 @@
 use mathlib.Core.Path.{_≡_, refl, sym, ap, ap₂, _∙_, subst}
 use mathlib.Core.Logic.{_⊎_, inl, inr, ⊎-elim}
 use mathlib.Core.Bool.{Bool, true, false, cond, _&&_, _||_, false≢true}
-use mathlib.Core.List.{List, _∷_}
+use mathlib.Core.List.{_∷_}
 use Prim.Native.Nat.{ℕ, zero, suc, _+_, _^_, _-_, _≤_, _<_, zero-le, suc-le-suc}
-use native.Mathlib.Nat.{le-of-suc-le-suc, not-suc-le-zero, eq-or-lt-of-le, le-refl, lt-irrefl, add-zero, add-le-add, add-lt-add-of-le-of-lt, add-lt-add-of-lt-of-le}
+use native.Mathlib.Nat.{le-of-suc-le-suc, not-suc-le-zero, eq-or-lt-of-le, le-refl, add-zero, add-le-add, add-lt-add-of-le-of-lt, add-lt-add-of-lt-of-le}
 use native.Mathlib.Numerals.{add-one}
 use native.Mathlib.Omega.{arith}
 use borrow.Author.Tests.{lt-ltb, le-ltb}
 use lib.Dec.{ltb}
-use lib.ListN.{length, getD, set}
-use lib.Seq.{ext-getD, getD-set-same, getD-set-other}
+use lib.ListN.{length, getD}
 use Rattle.policy.specs.Below.{every, some, first, sum, count, setOf, listOf}
 use Rattle.policy.proofs.Truth.{either, false-unless, not-both, and-left, and-right, and-both, or-left, or-right, or-cases}
 
@@ -64,9 +63,6 @@ module _ (f : ℕ → Bool) where
   some-found zero e = absurd (false≢true e)
   some-found (suc n) e =
       ⊎-elim (λ p. let w = some-found n p in (w .0, omega (arith, w .1), w .2)) (λ q. (n, le-refl (suc n), q)) (or-cases (some n f) (f n) e)
-
-  pub some-fails : (n : ℕ) → ((i : ℕ) → i < n → f i ≡ false) → some n f ≡ false
-  some-fails n h = false-unless (some n f) (λ t. let w = some-found n t in not-both (w .2) (h (w .0) (w .1)))
 
   pub none-at : (n : ℕ) → some n f ≡ false → (i : ℕ) → i < n → f i ≡ false
   none-at n e i h = false-unless (f i) (λ t. not-both (some-at n i h t) e)
@@ -292,16 +288,3 @@ pub listOf-same : (f g : ℕ → ℕ) (n : ℕ) → ((i : ℕ) → i < n → f i
 unfolding listOf
 listOf-same f g zero h = refl
 listOf-same f g (suc n) h = ap₂ _∷_ (h zero (suc-le-suc zero-le)) (listOf-same (λ i. f (suc i)) (λ i. g (suc i)) n (λ i l. h (suc i) (suc-le-suc l)))
-
--- a list filled from the front: what a store at i adds, and the whole once all is stored
-pub filled-more : (g : ℕ → ℕ) (l : List ℕ) (i : ℕ) → i < length l → ((k : ℕ) → k < i → getD l k 0 ≡ g k) → (k : ℕ) → k < i + 1 → getD (set l i (g i)) k 0 ≡ g k
-filled-more g l i h done k below =
-    ⊎-elim
-    (λ e. subst (λ (m : ℕ). getD (set l i (g i)) m 0 ≡ g m) (sym e) (getD-set-same l i (g i) 0 h))
-    (λ b. getD-set-other l i k (g i) 0 (λ e. absurd (lt-irrefl i (subst (λ (m : ℕ). m < i) e b))) ∙ done k b)
-    (at-or-below (subst (λ (m : ℕ). k < m) (add-one i) below))
-
-pub filled : (g : ℕ → ℕ) (l : List ℕ) (n : ℕ) → length l ≡ n → ((k : ℕ) → k < n → getD l k 0 ≡ g k) → l ≡ listOf n g
-filled g l n len done =
-    ext-getD 0 l (listOf n g) (len ∙ sym (length-listOf g n))
-    (λ i h. let b : i < n = omega (arith, len) in done i b ∙ sym (getD-listOf g n i b))

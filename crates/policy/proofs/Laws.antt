@@ -5,9 +5,9 @@ use mathlib.Core.Logic.{⊎-elim}
 use mathlib.Core.Bool.{Bool, true, false, cond, _&&_, _||_}
 use mathlib.Core.List.{List, _∷_}
 use Prim.Native.Nat.{ℕ, zero, suc, _+_, _-_, _^_, _≤_, _<_, zero-le}
-use native.Mathlib.Nat.{le-refl, le-trans, lt-of-lt-of-le, not-suc-le-zero}
+use native.Mathlib.Nat.{le-refl, le-trans, not-suc-le-zero}
 use native.Mathlib.Omega.{arith}
-use borrow.Author.Tests.{lt-ltb, le-ltb, ltb-true, leb-true, eqb-true}
+use borrow.Author.Tests.{ltb-true, leb-true, eqb-true}
 use lib.Dec.{ltb, leb, eqb, lit<}
 use lib.ListN.{length, getD, List·getD-eq-default}
 use Rattle.policy.specs.Below.{every}
@@ -21,17 +21,17 @@ use Rattle.policy.specs.declared.Timing.{Timing}
 use Rattle.policy.specs.declared.Policy.{Policy}
 use Rattle.policy.proofs.Truth.{either, false-unless, not-both, and-left, and-right, and-both, and-three, and-four, not-true, not-false}
 use Rattle.policy.proofs.Below.{lt-or-ge, every-at, some-at, some-found, first-found, count-few, count-all-fail, count-less, sum-without}
-use Rattle.policy.proofs.Sets.{member-zero, member-over, member-setOf, setOf-below}
-use Rattle.policy.proofs.Reflect as reflect
+use Rattle.policy.proofs.Masks.{member-zero, member-over, member-setOf, setOf-below}
+use Rattle.policy.proofs.Orders as orders
 use Rattle.policy.proofs.Numbered as numbered
 
 -- ---- what the tests are
 
 -- where no test fails, each passes
-pub passes : (k : ℕ) (b : Bool) (tests : List Bool) → firstFailing (suc k) (b ∷ tests) ≡ 0 → (b ≡ true) × (firstFailing (suc (suc k)) tests ≡ 0)
+pub first-passes : (k : ℕ) (b : Bool) (tests : List Bool) → firstFailing (suc k) (b ∷ tests) ≡ 0 → (b ≡ true) × (firstFailing (suc (suc k)) tests ≡ 0)
 unfolding firstFailing
-passes k true tests e = (refl, e)
-passes k false tests e = absurd (not-suc-le-zero {n = k} (omega (arith, e)))
+first-passes k true tests e = (refl, e)
+first-passes k false tests e = absurd (not-suc-le-zero {n = k} (omega (arith, e)))
 
 -- low ≤ x ≤ high
 bounds : (low x high : ℕ) → within low x high ≡ true → (low ≤ x) × (x ≤ high)
@@ -39,7 +39,7 @@ unfolding within
 bounds low x high e = (leb-true low x (and-left (leb low x) (leb x high) e), leb-true x high (and-right (leb low x) (leb x high) e))
 
 -- 3 to 8 passed
-record Sound (p : Policy) : Type 0 where
+record TestsPassed (p : Policy) : Type 0 where
   rows : rowsFit (p .classes) (p .rows) ≡ true
   antisymmetry : antisymmetric (p .rows) ≡ true
   transitivity : transitive (p .rows) ≡ true
@@ -47,15 +47,15 @@ record Sound (p : Policy) : Type 0 where
   turns : turnsSound (p .epoch) (p .minimums) ≡ true
   timing : timingSound (p .timing) ≡ true
 
-sound : (p : Policy) → refusal p ≡ 0 → Sound p
+tests-passed : (p : Policy) → refusal p ≡ 0 → TestsPassed p
 unfolding refusal policyTests
-sound p e =
-    let a = passes 2 _ _ e in
-    let b = passes 3 _ _ (a .1) in
-    let c = passes 4 _ _ (b .1) in
-    let d = passes 5 _ _ (c .1) in
-    let f = passes 6 _ _ (d .1) in
-    let g = passes 7 _ _ (f .1) in
+tests-passed p e =
+    let a = first-passes 2 _ _ e in
+    let b = first-passes 3 _ _ (a .1) in
+    let c = first-passes 4 _ _ (b .1) in
+    let d = first-passes 5 _ _ (c .1) in
+    let f = first-passes 6 _ _ (d .1) in
+    let g = first-passes 7 _ _ (f .1) in
     record { rows = a .0; antisymmetry = b .0; transitivity = c .0; lowest = d .0; turns = f .0; timing = g .0 }
 
 module _ (p : Policy) (given : inRange p ≡ true) where
@@ -66,8 +66,8 @@ module _ (p : Policy) (given : inRange p ≡ true) where
   few : (1 ≤ p .classes) × (p .classes ≤ 16)
   few = bounds 1 (p .classes) 16 (parts .1)
 
-  tests : Sound p
-  tests = sound p (eqb-true (refusal p) 0 (parts .2))
+  tests : TestsPassed p
+  tests = tests-passed p (eqb-true (refusal p) 0 (parts .2))
 
   -- ---- the shape
 
@@ -97,68 +97,76 @@ module _ (p : Policy) (given : inRange p ≡ true) where
   past l long i h = List·getD-eq-default l 0 (omega (arith, long))
 
   -- the order is stored as it should be
-  stored : reflect.Stored (p .classes) (p .rows)
+  stored : orders.Stored (p .classes) (p .rows)
   unfolding rowsFit rowFits
   stored =
       record {
-        few = few .1;
+        class-small = orders.classes-small (p .classes) (few .1);
         small = λ i. ⊎-elim (shape .small i) (λ h. rw (past (p .rows) (shape .rows) i h) (lit< tt)) (lt-or-ge i 16);
         void =
             λ i h.
             ⊎-elim
             (λ l.
             let at = every-at (λ k. rowFits (p .classes) k (getD (p .rows) k 0)) 16 (tests .rows) i l in
-            eqb-true (getD (p .rows) i 0) 0 (rw (le-ltb i (p .classes) h) at at))
+            eqb-true (getD (p .rows) i 0) 0 (rw h at at))
             (past (p .rows) (shape .rows) i)
             (lt-or-ge i 16);
       }
 
-  fit : reflect.RowsFit (p .classes) (p .rows) stored
-  fit = reflect.rows-said (p .classes) (p .rows) stored (tests .rows)
+  fit : orders.RowsFit (p .classes) (p .rows) stored
+  fit = orders.rows-said (p .classes) (p .rows) stored (tests .rows)
 
   -- ---- the order
 
-  from-class : (i j : ℕ) → flows p i j ≡ true → i < p .classes
-  unfolding flows
-  from-class i j e = reflect.from-class (p .classes) (p .rows) stored i j e
+  class-small : (i : ℕ) → isClass p i ≡ true → i < 16
+  unfolding isClass
+  class-small = stored .class-small
 
-  to-class : (i j : ℕ) → flows p i j ≡ true → j < p .classes
-  unfolding flows
+  zero-class : isClass p 0 ≡ true
+  unfolding isClass
+  zero-class = orders.below-class (p .classes) 0 (few .0)
+
+  from-class : (i j : ℕ) → flows p i j ≡ true → isClass p i ≡ true
+  unfolding flows isClass
+  from-class i j e = orders.from-class (p .classes) (p .rows) stored i j e
+
+  to-class : (i j : ℕ) → flows p i j ≡ true → isClass p j ≡ true
+  unfolding flows isClass
   to-class i j e = fit .to-class i j (from-class i j e) e
 
   to-small : (i j : ℕ) → flows p i j ≡ true → j < 16
-  to-small i j e = lt-of-lt-of-le (to-class i j e) (few .1)
+  to-small i j e = class-small j (to-class i j e)
 
   antisym : (i j : ℕ) → flows p i j ≡ true → flows p j i ≡ true → i ≡ j
-  unfolding flows
+  unfolding flows isClass
   antisym i j there back =
-      reflect.antisymmetric-said (p .classes) (p .rows) stored (tests .antisymmetry) i j (from-class i j there) (from-class j i back) there back
+      orders.antisymmetric-said (p .classes) (p .rows) stored (tests .antisymmetry) i j (from-class i j there) (from-class j i back) there back
 
   trans : (i j k : ℕ) → flows p i j ≡ true → flows p j k ≡ true → flows p i k ≡ true
   unfolding flows
-  trans i j k first second = reflect.transitive-said (p .classes) (p .rows) stored (tests .transitivity) i j k first second
+  trans i j k first second = orders.transitive-said (p .classes) (p .rows) stored (tests .transitivity) i j k first second
 
-  own : Reflexive (p .classes) (flows p)
-  unfolding flows
+  own : Reflexive (isClass p) (flows p)
+  unfolding flows isClass
   own = fit .own
 
   order-laws : OrderLaws p
   order-laws =
-      record { classes-few = few; from-class = from-class; to-class = to-class; reflexive = own; antisymmetric = antisym; transitive = trans }
+      record { classes-few = few; class-small = class-small; zero-class = zero-class; from-class = from-class; to-class = to-class; reflexive = own; antisymmetric = antisym; transitive = trans }
 
   -- ---- strictly above
 
   strict-flows : (i j : ℕ) → strictly p i j ≡ true → flows p i j ≡ true
   unfolding strictly flows
-  strict-flows = reflect.strictly-flows (p .rows)
+  strict-flows = orders.strictly-flows (p .rows)
 
   strict-apart : (i j : ℕ) → strictly p i j ≡ true → i ≡ j → ⊥
   unfolding strictly
-  strict-apart = reflect.strictly-apart (p .rows)
+  strict-apart = orders.strictly-apart (p .rows)
 
   apart-strict : (i j : ℕ) → flows p i j ≡ true → ((i ≡ j) → ⊥) → strictly p i j ≡ true
   unfolding strictly flows
-  apart-strict = reflect.apart-strictly (p .rows)
+  apart-strict = orders.apart-strictly (p .rows)
 
   -- what is strictly above something strictly above a class is strictly above the class
   strict-trans : (i j k : ℕ) → strictly p i j ≡ true → strictly p j k ≡ true → strictly p i k ≡ true
@@ -169,9 +177,9 @@ module _ (p : Policy) (given : inRange p ≡ true) where
 
   -- ---- the least class
 
-  least-found : (least p < p .classes) × Least (p .classes) (flows p) (least p)
-  unfolding least leastIn hasLeast flows
-  least-found = reflect.least-said (p .classes) (p .rows) stored (least p) (first-found (leastAt (p .classes) (p .rows)) 16 (tests .lowest) .passes)
+  least-found : (isClass p (least p) ≡ true) × Least (isClass p) (flows p) (least p)
+  unfolding least leastIn hasLeast flows isClass
+  least-found = orders.least-said (p .classes) (p .rows) stored (least p) (first-found (leastAt (p .classes) (p .rows)) 16 (tests .lowest) .passes)
 
   least-laws : LeastLaws p
   least-laws =
@@ -197,8 +205,8 @@ module _ (p : Policy) (given : inRange p ≡ true) where
       (λ l. count-few (strictly p i) 16 0 (lit< tt) (false-unless (strictly p i 0) (λ t. none l (from-class i 0 (strict-flows i 0 t)))))
       (lt-or-ge i 16)
     where
-      none : 16 ≤ i → i < p .classes → ⊥
-      none l b = not-suc-le-zero {n = 0} (omega (arith, few .1))
+      none : 16 ≤ i → isClass p i ≡ true → ⊥
+      none l b = not-suc-le-zero {n = 0} (omega (arith, class-small i b))
 
   -- ---- covers
 
@@ -263,7 +271,7 @@ module _ (p : Policy) (given : inRange p ≡ true) where
   unfolding coversIn strictly
   covered i j law =
       let there = strict-flows i j (law .strict) in
-      member-covers i j (lt-of-lt-of-le (from-class i j there) (few .1)) (to-small i j there)
+      member-covers i j (class-small i (from-class i j there)) (to-small i j there)
       ∙ and-both (law .strict)
       (not-false (betweenIn (p .rows) i j)
       (false-unless (betweenIn (p .rows) i j) (λ t. let w = between i j t in law .direct (w .0) (w .1) (w .2))))
@@ -353,24 +361,24 @@ module _ (p : Policy) (given : inRange p ≡ true) where
   room : (i : ℕ) → i < 16 → minimumsAbove (p .rows) (p .minimums) i + getD (p .minimums) i 0 ≤ p .epoch
   unfolding minimumsAbove minimumsSum part
   room i l =
-      let own-part : part i i ≡ 0 = rw (false-unless (strictlyIn (p .rows) i i) (λ t. reflect.strictly-apart (p .rows) i i t refl)) in
+      let own-part : part i i ≡ 0 = rw (false-unless (strictlyIn (p .rows) i i) (λ t. orders.strictly-apart (p .rows) i i t refl)) in
       le-trans (sum-without (part i) (λ j. getD (p .minimums) j 0) 16 (λ j m. part-under i j) i l own-part) within-epoch
 
-  cap-is : (i : ℕ) → i < p .classes → cap p i ≡ p .epoch - minimumsAbove (p .rows) (p .minimums) i
-  unfolding capIn
-  cap-is i l = caps-stored i (lt-of-lt-of-le l (few .1)) ∙ rw (lt-ltb i (p .classes) l)
+  cap-is : (i : ℕ) → isClass p i ≡ true → cap p i ≡ p .epoch - minimumsAbove (p .rows) (p .minimums) i
+  unfolding capIn isClass
+  cap-is i l = caps-stored i (class-small i l) ∙ rw l
 
-  cap-none : (i : ℕ) → p .classes ≤ i → cap p i ≡ 0
-  unfolding capIn cap
-  cap-none i l = ⊎-elim (λ m. caps-stored i m ∙ rw (le-ltb i (p .classes) l)) (past (p .caps) (shape .caps) i) (lt-or-ge i 16)
+  cap-none : (i : ℕ) → isClass p i ≡ false → cap p i ≡ 0
+  unfolding capIn cap isClass
+  cap-none i l = ⊎-elim (λ m. caps-stored i m ∙ rw l) (past (p .caps) (shape .caps) i) (lt-or-ge i 16)
 
   cap-laws : CapLaws p
   cap-laws =
       record {
         epoch-bounds = (leb-true 1 (p .epoch) (turns .0), leb-true (p .epoch) 64 (turns .1));
-        is-rest = λ i l. omega (arith, cap-is i l, room i (lt-of-lt-of-le l (few .1)));
-        at-least-own = λ i l. omega (arith, cap-is i l, room i (lt-of-lt-of-le l (few .1)));
-        at-most-epoch = λ i. ⊎-elim (λ l. omega (arith, cap-is i l)) (λ l. omega (arith, cap-none i l)) (lt-or-ge i (p .classes));
+        is-rest = λ i l. omega (arith, cap-is i l, room i (class-small i l));
+        at-least-own = λ i l. omega (arith, cap-is i l, room i (class-small i l));
+        at-most-epoch = λ i. ⊎-elim (λ l. omega (arith, cap-is i l)) (λ l. omega (arith, cap-none i l)) (either (isClass p i));
         sixteen = shape .caps;
       }
 

@@ -4,12 +4,12 @@
 pub mod Truth
 -- of "every", "some", "the first", sums and lists below a bound
 pub mod Below
+-- of loops over the numbers below a bound
+pub mod Loops
 -- of sets of classes as numbers
-pub mod Sets
--- of the sets of classes above a class and covering it
-pub mod OrderSets
--- of the tests on an order: what each says of every class
-pub mod Reflect
+pub mod Masks
+-- of the order: what each test on it says of every class, and the sets of classes above a class and covering it
+pub mod Orders
 -- of the numbers that the classes of a set have
 pub mod Numbered
 -- of every policy in range

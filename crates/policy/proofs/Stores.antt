@@ -1,12 +1,37 @@
--- A run of stores, `sets`, behind what is written already adds to it.
+-- A store leaves what was stored at its place, and at any other what stood there; a run of stores, `sets`, behind what is written already adds to it.
 -- Assumes nothing.
-use mathlib.Core.Path.{_≡_, sym, ap, _∙_}
+use mathlib.Core.Path.{_≡_, sym, ap, _∙_, subst}
+use mathlib.Core.Logic.{_≢_, ⊎-elim}
 use mathlib.Core.List.{List, [], _∷_, _++_}
-use Prim.Native.Nat.{ℕ, suc, _+_, _≤_}
+use Prim.Native.Nat.{ℕ, suc, _+_, _≤_, _<_}
 use native.Mathlib.Nat.{add-zero}
 use native.Mathlib.Omega.{arith}
-use lib.ListN.{length, set, drop, length-append, length-drop}
-use lib.Seq.{sets, sets-eq, take-at, drop-append-add, drop-drop}
+use borrow.Author.Tests.{eqb-true, eqb-false}
+use lib.Dec.{eqb}
+use lib.ListN.{length, getD, set, drop, length-append, length-drop}
+use lib.Seq.{getD-set-same, getD-set-other, sets, sets-eq, take-at, drop-append-add, drop-drop}
+use Rattle.policy.proofs.Truth.{either}
+
+-- what holds of one number, and of a number if it is another, holds of that number
+pub same-or-other : (P : ℕ → Type 0) (i j : ℕ) → P i → (j ≢ i → P j) → P j
+same-or-other P i j here there = ⊎-elim (λ e. subst P (sym (eqb-true j i e)) here) (λ e. there (eqb-false j i e)) (either (eqb j i))
+
+-- what holds of the number stored, if its place is the one looked at, and of what stood there, if it is another, holds of what is found there
+pub stored-at : (P : ℕ → Type 0) (l : List ℕ) (i x j : ℕ) → i < length l → ((j ≡ i) → P x) → (j ≢ i → P (getD l j 0)) → P (getD (set l i x) j 0)
+stored-at P l i x j inside new old =
+    ⊎-elim
+    (λ e.
+    let here = eqb-true j i e in
+    subst P (sym (ap (λ (k : ℕ). getD (set l i x) k 0) here ∙ getD-set-same l i x 0 inside)) (new here))
+    (λ e. let other = eqb-false j i e in subst P (sym (getD-set-other l i j x 0 other)) (old other))
+    (either (eqb j i))
+
+-- and so with two lists, stored into at one place
+pub stored-in-both : (P : ℕ → ℕ → Type 0) (l m : List ℕ) (i x y j : ℕ) → i < length l → i < length m → ((j ≡ i) → P x y) → (j ≢ i → P (getD l j 0) (getD m j 0)) → P (getD (set l i x) j 0) (getD (set m i y) j 0)
+stored-in-both P l m i x y j inside within new old =
+    stored-at (λ a. P a (getD (set m i y) j 0)) l i x j inside
+    (λ here. stored-at (P x) m i y j within new (λ other. absurd (other here)))
+    (λ other. stored-at (P (getD l j 0)) m i y j within (λ here. absurd (other here)) old)
 
 -- two runs, the second where the first ends
 pub sets-append : (vs ws l : List ℕ) (i : ℕ) → sets (sets l i vs) (i + length vs) ws ≡ sets l i (vs ++ ws)

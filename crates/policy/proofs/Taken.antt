@@ -13,18 +13,18 @@ use lib.Dec.{leb, ltb, eqb, lit<, lit≤}
 use lib.ListN.{length, getD, List·getD-eq-default}
 use Rattle.policy.specs.Below.{sum, listOf}
 use Rattle.policy.specs.Mask.{member}
-use Rattle.policy.specs.Order.{flowsIn, rowsFit, antisymmetric, transitive, hasLeast, coverSet}
+use Rattle.policy.specs.Order.{isClassIn, flowsIn, rowsFit, antisymmetric, transitive, hasLeast, coverSet}
 use Rattle.policy.specs.Turns.{minimumsSum, turnsSound, capIn}
 use Rattle.policy.specs.Timing.{within, gapsWithin, bankWithin, timingSound}
 use Rattle.policy.specs.Policy.{isClass, coversOf, cap, firstFailing, policyTests, refusal, shaped, storedFits, allStoredFits, inRange}
-use Rattle.policy.specs.File.{byte, word, kind, start, size, kindsFit, bodiesAbut, contentsFit, classCount, lengthsFit, rowAt, epochOf, minimumAt, timingOf, held, fileTests, status, refusedWith, readFile}
-use Rattle.policy.specs.Laws.{Reflexive, Antisymmetric, Transitive, Least, TimingLaws}
-use Rattle.policy.specs.Taken.{Bytes, Between, SoundTurns, SoundTiming, bits, policyOf, Held, TakenIff, Form, Lengths, order, Rows, conditions, FirstFails, RefusalNumbers}
+use Rattle.policy.specs.File.{byte, word, kind, start, bodySize, kindsFit, bodiesAbut, contentsFit, classCount, lengthsFit, rowAt, epochOf, minimumAt, timingOf, held, fileTests, status, refusedWith, readFile}
+use Rattle.policy.specs.Laws.{Reflexive, Antisymmetric, Transitive, Least, SmallClasses, TimingLaws}
+use Rattle.policy.specs.Taken.{Bytes, Between, SoundTurns, SoundTiming, bits, policyOf, Encoded, TakenIff, Form, Lengths, fileOrder, Rows, conditions, FirstFails, RefusalNumbers}
 use Rattle.policy.specs.Taken.FirstFails.{none, here, later}
 use Rattle.policy.proofs.Truth.{either, not-both, and-left, and-right, and-both, and-three, and-four, or-left, or-right}
 use Rattle.policy.proofs.Below.{lt-or-ge, every-all, getD-listOf, length-listOf, listOf-same, sum-same, sum-cut}
-use Rattle.policy.proofs.Laws.{passes, timing-laws}
-use Rattle.policy.proofs.Reflect as reflect
+use Rattle.policy.proofs.Laws.{first-passes, timing-laws}
+use Rattle.policy.proofs.Orders as orders
 
 -- ---- tests and conditions, side by side
 
@@ -51,39 +51,39 @@ one-number (later c rest) (later d more) = one-number rest more
 
 between-said : (low x high : ℕ) → within low x high ≡ true → Between low x high
 unfolding within
-between-said low x high e = record { least = leb-true low x (and-left (leb low x) (leb x high) e); most = leb-true x high (and-right (leb low x) (leb x high) e) }
+between-said low x high e = record { at-least = leb-true low x (and-left (leb low x) (leb x high) e); at-most = leb-true x high (and-right (leb low x) (leb x high) e) }
 
 between-tested : (low x high : ℕ) → Between low x high → within low x high ≡ true
 unfolding within
-between-tested low x high b = and-both (le-leb low x (b .least)) (le-leb x high (b .most))
+between-tested low x high b = and-both (le-leb low x (b .at-least)) (le-leb x high (b .at-most))
 
 -- ---- orders that agree on the classes
 
-module _ (n : ℕ) (R Q : ℕ → ℕ → Bool) (same : (i j : ℕ) → i < n → R i j ≡ Q i j) where
-  reflexive-same : Reflexive n R → Reflexive n Q
+module _ (among : ℕ → Bool) (R Q : ℕ → ℕ → Bool) (same : (i j : ℕ) → among i ≡ true → R i j ≡ Q i j) where
+  reflexive-same : Reflexive among R → Reflexive among Q
   reflexive-same law i l = sym (same i i l) ∙ law i l
 
-  antisymmetric-same : Antisymmetric n R → Antisymmetric n Q
+  antisymmetric-same : Antisymmetric among R → Antisymmetric among Q
   antisymmetric-same law i j li lj p q = law i j li lj (same i j li ∙ p) (same j i lj ∙ q)
 
-  transitive-same : Transitive n R → Transitive n Q
+  transitive-same : Transitive among R → Transitive among Q
   transitive-same law i j k li lj lk p q = sym (same i k li) ∙ law i j k li lj lk (same i j li ∙ p) (same j k lj ∙ q)
 
-  least-same : (i : ℕ) → i < n → Least n R i → Least n Q i
+  least-same : (i : ℕ) → among i ≡ true → Least among R i → Least among Q i
   least-same i l law j m = sym (same i j l) ∙ law j m
 
 -- ---- 1 and 2
 
 module _ (s : List ℕ) where
   form-said : contentsFit s ≡ true → Form s
-  unfolding contentsFit kindsFit bodiesAbut kind start size
+  unfolding contentsFit kindsFit bodiesAbut kind start bodySize
   form-said e =
       let all = and-three (within 17 (length s) 65535) (kindsFit s) (bodiesAbut s) e in
       let kinds = and-four (eqb (byte s 0) 3) (eqb (byte s 1) 1) (eqb (byte s 6) 2) (eqb (byte s 11) 3) (all .1) in
       let abut = and-four (eqb (word s 2) 16) (eqb (word s 7) (16 + word s 4)) (eqb (word s 12) (word s 7 + word s 9)) (eqb (length s) (word s 12 + word s 14)) (all .2) in
       record {
-        few = between-said 17 (length s) 65535 (all .0);
-        count = eqb-true (byte s 0) 3 (kinds .0);
+        length-bounds = between-said 17 (length s) 65535 (all .0);
+        entries = eqb-true (byte s 0) 3 (kinds .0);
         kinds = (eqb-true (byte s 1) 1 (kinds .1), eqb-true (byte s 6) 2 (kinds .2), eqb-true (byte s 11) 3 (kinds .3));
         first-start = eqb-true (word s 2) 16 (abut .0);
         second-start = eqb-true (word s 7) (16 + word s 4) (abut .1);
@@ -92,11 +92,11 @@ module _ (s : List ℕ) where
       }
 
   form-tested : Form s → contentsFit s ≡ true
-  unfolding contentsFit kindsFit bodiesAbut kind start size
+  unfolding contentsFit kindsFit bodiesAbut kind start bodySize
   form-tested f =
       and-both
-      (and-both (between-tested 17 (length s) 65535 (f .few))
-      (and-both (and-both (and-both (eq-eqb (byte s 0) 3 (f .count)) (eq-eqb (byte s 1) 1 (f .kinds .0))) (eq-eqb (byte s 6) 2 (f .kinds .1)))
+      (and-both (between-tested 17 (length s) 65535 (f .length-bounds))
+      (and-both (and-both (and-both (eq-eqb (byte s 0) 3 (f .entries)) (eq-eqb (byte s 1) 1 (f .kinds .0))) (eq-eqb (byte s 6) 2 (f .kinds .1)))
       (eq-eqb (byte s 11) 3 (f .kinds .2))))
       (and-both
       (and-both (and-both (eq-eqb (word s 2) 16 (f .first-start)) (eq-eqb (word s 7) (16 + word s 4) (f .second-start)))
@@ -104,21 +104,21 @@ module _ (s : List ℕ) where
       (eq-eqb (length s) (word s 12 + word s 14) (f .end)))
 
   lengths-said : lengthsFit s ≡ true → Lengths s
-  unfolding lengthsFit classCount size
+  unfolding lengthsFit classCount bodySize
   lengths-said e =
       let all = and-four (within 1 (byte s 16) 16) (eqb (word s 4) (1 + 2 * byte s 16)) (eqb (word s 9) (1 + byte s 16)) (eqb (word s 14) 10) e in
       record {
-        classes = between-said 1 (byte s 16) 16 (all .0);
+        count-bounds = between-said 1 (byte s 16) 16 (all .0);
         order-size = eqb-true (word s 4) (1 + 2 * byte s 16) (all .1);
         turns-size = eqb-true (word s 9) (1 + byte s 16) (all .2);
         timing-size = eqb-true (word s 14) 10 (all .3);
       }
 
   lengths-tested : Lengths s → lengthsFit s ≡ true
-  unfolding lengthsFit classCount size
+  unfolding lengthsFit classCount bodySize
   lengths-tested l =
       and-both
-      (and-both (and-both (between-tested 1 (byte s 16) 16 (l .classes)) (eq-eqb (word s 4) (1 + 2 * byte s 16) (l .order-size)))
+      (and-both (and-both (between-tested 1 (byte s 16) 16 (l .count-bounds)) (eq-eqb (word s 4) (1 + 2 * byte s 16) (l .order-size)))
       (eq-eqb (word s 9) (1 + byte s 16) (l .turns-size)))
       (eq-eqb (word s 14) 10 (l .timing-size))
 
@@ -136,77 +136,81 @@ module _ (s : List ℕ) (given : Bytes s) (f : Form s) (l : Lengths s) where
   unfolding word
   word-small at = omega (arith, given at, given (at + 1))
 
-  row-is : (i : ℕ) → i < byte s 16 → getD (listOf 16 (rowAt s)) i 0 ≡ word s (17 + 2 * i)
-  unfolding rowAt classCount
-  row-is i b = getD-listOf (rowAt s) 16 i (lt-of-lt-of-le b (l .classes .most)) ∙ rw (lt-ltb i (byte s 16) b)
+  -- the classes are the numbers that the file has a row and a minimum for
+  class-small : SmallClasses (byte s 16)
+  class-small = orders.classes-small (byte s 16) (l .count-bounds .at-most)
 
-  row-void : (i : ℕ) → byte s 16 ≤ i → getD (listOf 16 (rowAt s)) i 0 ≡ 0
+  row-is : (i : ℕ) → isClassIn (byte s 16) i ≡ true → getD (listOf 16 (rowAt s)) i 0 ≡ word s (17 + 2 * i)
+  unfolding rowAt classCount
+  row-is i b = getD-listOf (rowAt s) 16 i (class-small i b) ∙ rw (lt-ltb i (byte s 16) (orders.class-below (byte s 16) i b))
+
+  row-void : (i : ℕ) → isClassIn (byte s 16) i ≡ false → getD (listOf 16 (rowAt s)) i 0 ≡ 0
   unfolding rowAt classCount
   row-void i b =
-      ⊎-elim (λ m. getD-listOf (rowAt s) 16 i m ∙ rw (le-ltb i (byte s 16) b)) (λ m. List·getD-eq-default (listOf 16 (rowAt s)) 0 (omega (arith, length-listOf (rowAt s) 16)))
+      ⊎-elim (λ m. getD-listOf (rowAt s) 16 i m ∙ rw (le-ltb i (byte s 16) (orders.past-classes (byte s 16) i b))) (λ m. List·getD-eq-default (listOf 16 (rowAt s)) 0 (omega (arith, length-listOf (rowAt s) 16)))
       (lt-or-ge i 16)
 
-  stored : reflect.Stored (byte s 16) (listOf 16 (rowAt s))
+  stored : orders.Stored (byte s 16) (listOf 16 (rowAt s))
   stored =
       record {
-        few = l .classes .most;
-        small = λ i. ⊎-elim (λ b. rw (row-is i b) (word-small (17 + 2 * i))) (λ b. rw (row-void i b) (lit< tt)) (lt-or-ge i (byte s 16));
+        class-small = class-small;
+        small = λ i. ⊎-elim (λ b. rw (row-is i b) (word-small (17 + 2 * i))) (λ b. rw (row-void i b) (lit< tt)) (either (isClassIn (byte s 16) i));
         void = row-void;
       }
 
   -- the stored rows give the file's order
-  same-order : (i j : ℕ) → i < byte s 16 → flowsIn (listOf 16 (rowAt s)) i j ≡ order s i j
+  same-order : (i j : ℕ) → isClassIn (byte s 16) i ≡ true → flowsIn (listOf 16 (rowAt s)) i j ≡ fileOrder s i j
   unfolding flowsIn
   same-order i j b = ap (λ (m : ℕ). member m j) (row-is i b)
 
-  same-back : (i j : ℕ) → i < byte s 16 → order s i j ≡ flowsIn (listOf 16 (rowAt s)) i j
+  same-back : (i j : ℕ) → isClassIn (byte s 16) i ≡ true → fileOrder s i j ≡ flowsIn (listOf 16 (rowAt s)) i j
   same-back i j b = sym (same-order i j b)
 
   rows-said : rowsFit (byte s 16) (listOf 16 (rowAt s)) ≡ true → Rows s
   rows-said e =
-      let law = reflect.rows-said (byte s 16) (listOf 16 (rowAt s)) stored e in
+      let law = orders.rows-said (byte s 16) (listOf 16 (rowAt s)) stored e in
       record {
         no-other-bit = λ i j b t. law .to-class i j b (same-order i j b ∙ t);
-        own = reflexive-same (byte s 16) (flowsIn (listOf 16 (rowAt s))) (order s) same-order (law .own);
+        own = reflexive-same (isClassIn (byte s 16)) (flowsIn (listOf 16 (rowAt s))) (fileOrder s) same-order (law .own);
       }
 
-  fit : Rows s → reflect.RowsFit (byte s 16) (listOf 16 (rowAt s)) stored
+  fit : Rows s → orders.RowsFit (byte s 16) (listOf 16 (rowAt s)) stored
   fit r =
       record {
         to-class = λ i j b t. r .no-other-bit i j b (same-back i j b ∙ t);
-        own = reflexive-same (byte s 16) (order s) (flowsIn (listOf 16 (rowAt s))) same-back (r .own);
+        own = reflexive-same (isClassIn (byte s 16)) (fileOrder s) (flowsIn (listOf 16 (rowAt s))) same-back (r .own);
       }
 
   rows-tested : Rows s → rowsFit (byte s 16) (listOf 16 (rowAt s)) ≡ true
-  rows-tested r = reflect.rows-tested (byte s 16) (listOf 16 (rowAt s)) stored (fit r)
+  rows-tested r = orders.rows-tested (byte s 16) (listOf 16 (rowAt s)) stored (fit r)
 
   -- 4, 5 and 6
-  antisymmetric-said : antisymmetric (listOf 16 (rowAt s)) ≡ true → Antisymmetric (byte s 16) (order s)
+  antisymmetric-said : antisymmetric (listOf 16 (rowAt s)) ≡ true → Antisymmetric (isClassIn (byte s 16)) (fileOrder s)
   antisymmetric-said e =
-      antisymmetric-same (byte s 16) (flowsIn (listOf 16 (rowAt s))) (order s) same-order (reflect.antisymmetric-said (byte s 16) (listOf 16 (rowAt s)) stored e)
+      antisymmetric-same (isClassIn (byte s 16)) (flowsIn (listOf 16 (rowAt s))) (fileOrder s) same-order (orders.antisymmetric-said (byte s 16) (listOf 16 (rowAt s)) stored e)
 
-  antisymmetric-tested : Antisymmetric (byte s 16) (order s) → antisymmetric (listOf 16 (rowAt s)) ≡ true
+  antisymmetric-tested : Antisymmetric (isClassIn (byte s 16)) (fileOrder s) → antisymmetric (listOf 16 (rowAt s)) ≡ true
   antisymmetric-tested law =
-      reflect.antisymmetric-tested (byte s 16) (listOf 16 (rowAt s)) stored (antisymmetric-same (byte s 16) (order s) (flowsIn (listOf 16 (rowAt s))) same-back law)
+      orders.antisymmetric-tested (byte s 16) (listOf 16 (rowAt s)) stored (antisymmetric-same (isClassIn (byte s 16)) (fileOrder s) (flowsIn (listOf 16 (rowAt s))) same-back law)
 
-  transitive-said : transitive (listOf 16 (rowAt s)) ≡ true → Transitive (byte s 16) (order s)
+  transitive-said : transitive (listOf 16 (rowAt s)) ≡ true → Transitive (isClassIn (byte s 16)) (fileOrder s)
   transitive-said e =
-      transitive-same (byte s 16) (flowsIn (listOf 16 (rowAt s))) (order s) same-order
-      (λ i j k li lj lk p q. reflect.transitive-said (byte s 16) (listOf 16 (rowAt s)) stored e i j k p q)
+      transitive-same (isClassIn (byte s 16)) (flowsIn (listOf 16 (rowAt s))) (fileOrder s) same-order
+      (λ i j k li lj lk p q. orders.transitive-said (byte s 16) (listOf 16 (rowAt s)) stored e i j k p q)
 
-  transitive-tested : Rows s → Transitive (byte s 16) (order s) → transitive (listOf 16 (rowAt s)) ≡ true
+  transitive-tested : Rows s → Transitive (isClassIn (byte s 16)) (fileOrder s) → transitive (listOf 16 (rowAt s)) ≡ true
   transitive-tested r law =
-      reflect.transitive-tested (byte s 16) (listOf 16 (rowAt s)) stored (fit r) (transitive-same (byte s 16) (order s) (flowsIn (listOf 16 (rowAt s))) same-back law)
+      orders.transitive-tested (byte s 16) (listOf 16 (rowAt s)) stored (fit r) (transitive-same (isClassIn (byte s 16)) (fileOrder s) (flowsIn (listOf 16 (rowAt s))) same-back law)
 
-  least-said : hasLeast (byte s 16) (listOf 16 (rowAt s)) ≡ true → (i : ℕ) × (i < byte s 16) × Least (byte s 16) (order s) i
+  least-said : hasLeast (byte s 16) (listOf 16 (rowAt s)) ≡ true → (i : ℕ) × (isClassIn (byte s 16) i ≡ true) × Least (isClassIn (byte s 16)) (fileOrder s) i
   least-said e =
-      let w = reflect.has-least-said (byte s 16) (listOf 16 (rowAt s)) stored e in
-      (w .0, w .1, least-same (byte s 16) (flowsIn (listOf 16 (rowAt s))) (order s) same-order (w .0) (w .1) (w .2))
+      let w = orders.has-least-said (byte s 16) (listOf 16 (rowAt s)) stored e in
+      (w .0, w .1, least-same (isClassIn (byte s 16)) (flowsIn (listOf 16 (rowAt s))) (fileOrder s) same-order (w .0) (w .1) (w .2))
 
-  least-tested : ((i : ℕ) × (i < byte s 16) × Least (byte s 16) (order s) i) → hasLeast (byte s 16) (listOf 16 (rowAt s)) ≡ true
+  least-tested : ((i : ℕ) × (isClassIn (byte s 16) i ≡ true) × Least (isClassIn (byte s 16)) (fileOrder s) i) → hasLeast (byte s 16) (listOf 16 (rowAt s)) ≡ true
   least-tested w =
-      reflect.has-least-tested (byte s 16) (listOf 16 (rowAt s)) stored (w .0) (w .1)
-      (least-same (byte s 16) (order s) (flowsIn (listOf 16 (rowAt s))) same-back (w .0) (w .1) (w .2))
+      orders.has-least-tested (byte s 16) (listOf 16 (rowAt s)) stored (w .0) (w .1)
+      (least-same (isClassIn (byte s 16)) (fileOrder s) (flowsIn (listOf 16 (rowAt s))) same-back (w .0) (w .1) (w .2))
 
   -- 7
   epoch-is : epochOf s ≡ byte s (17 + 2 * byte s 16)
@@ -229,9 +233,9 @@ module _ (s : List ℕ) (given : Bytes s) (f : Form s) (l : Lengths s) where
   sum-is : minimumsSum (listOf 16 (minimumAt s)) ≡ sum (byte s 16) (λ i. byte s (18 + 2 * byte s 16 + i))
   unfolding minimumsSum
   sum-is =
-      sum-cut (λ i. getD (listOf 16 (minimumAt s)) i 0) (byte s 16) 16 (l .classes .most) minimum-void
+      sum-cut (λ i. getD (listOf 16 (minimumAt s)) i 0) (byte s 16) 16 (l .count-bounds .at-most) minimum-void
       ∙ sum-same (λ i. getD (listOf 16 (minimumAt s)) i 0) (λ i. byte s (18 + 2 * byte s 16 + i)) (byte s 16)
-      (λ i b. getD-listOf (minimumAt s) 16 i (lt-of-lt-of-le b (l .classes .most)) ∙ minimum-is i b)
+      (λ i b. getD-listOf (minimumAt s) 16 i (lt-of-lt-of-le b (l .count-bounds .at-most)) ∙ minimum-is i b)
 
   turns-said : turnsSound (epochOf s) (listOf 16 (minimumAt s)) ≡ true → SoundTurns (byte s 16) (byte s (17 + 2 * byte s 16)) (λ i. byte s (18 + 2 * byte s 16 + i))
   unfolding turnsSound
@@ -240,8 +244,8 @@ module _ (s : List ℕ) (given : Bytes s) (f : Form s) (l : Lengths s) where
       record {
         epoch-bounds =
             record {
-              least = omega (arith, leb-true 1 (epochOf s) (all .0), epoch-is);
-              most = omega (arith, leb-true (epochOf s) 64 (all .1), epoch-is);
+              at-least = omega (arith, leb-true 1 (epochOf s) (all .0), epoch-is);
+              at-most = omega (arith, leb-true (epochOf s) 64 (all .1), epoch-is);
             };
         sum-bound = omega (arith, leb-true (minimumsSum (listOf 16 (minimumAt s))) (epochOf s) (all .2), epoch-is, sum-is);
       }
@@ -250,7 +254,7 @@ module _ (s : List ℕ) (given : Bytes s) (f : Form s) (l : Lengths s) where
   unfolding turnsSound
   turns-tested t =
       and-both
-      (and-both (le-leb 1 (epochOf s) (omega (arith, t .epoch-bounds .least, epoch-is))) (le-leb (epochOf s) 64 (omega (arith, t .epoch-bounds .most, epoch-is))))
+      (and-both (le-leb 1 (epochOf s) (omega (arith, t .epoch-bounds .at-least, epoch-is))) (le-leb (epochOf s) 64 (omega (arith, t .epoch-bounds .at-most, epoch-is))))
       (le-leb (minimumsSum (listOf 16 (minimumAt s))) (epochOf s) (omega (arith, t .sum-bound, epoch-is, sum-is)))
 
   -- 8
@@ -265,20 +269,20 @@ module _ (s : List ℕ) (given : Bytes s) (f : Form s) (l : Lengths s) where
   timing-said e =
       let law = timing-laws (timingOf s) e in
       record {
-        turn-length = record { least = omega (arith, law .turn-bounds .0, first-byte); most = omega (arith, law .turn-bounds .1, first-byte) };
-        dead-time = record { least = omega (arith, law .dead-bounds .0, timing-byte 1); most = omega (arith, law .dead-bounds .1, timing-byte 1) };
+        turn-length = record { at-least = omega (arith, law .turn-bounds .0, first-byte); at-most = omega (arith, law .turn-bounds .1, first-byte) };
+        dead-time = record { at-least = omega (arith, law .dead-bounds .0, timing-byte 1); at-most = omega (arith, law .dead-bounds .1, timing-byte 1) };
         dead-below-turn = omega (arith, law .dead-below-turn, first-byte, timing-byte 1);
         gaps = gap law;
         answer-delay =
             record {
-              least = omega (arith, law .response-bounds .0, timing-byte 9);
-              most = omega (arith, law .response-bounds .1, timing-byte 9, timing-byte 1);
+              at-least = omega (arith, law .response-bounds .0, timing-byte 9);
+              at-most = omega (arith, law .response-bounds .1, timing-byte 9, timing-byte 1);
             };
         column-delay = (omega (arith, law .column-bounds .0, timing-byte 8), omega (arith, law .column-bounds .1, timing-byte 8, timing-byte 9));
       }
     where
       stands : (k : ℕ) → (1 ≤ byte s (word s 12 + k)) × (byte s (word s 12 + k) ≤ byte s (word s 12 + 1)) → Between 1 (byte s (18 + 3 * byte s 16 + k)) (byte s (18 + 3 * byte s 16 + 1))
-      stands k b = record { least = omega (arith, b .0, timing-byte k); most = omega (arith, b .1, timing-byte k, timing-byte 1) }
+      stands k b = record { at-least = omega (arith, b .0, timing-byte k); at-most = omega (arith, b .1, timing-byte k, timing-byte 1) }
 
       gap : TimingLaws (timingOf s) → (k : ℕ) → 2 ≤ k → k ≤ 7 → Between 1 (byte s (18 + 3 * byte s 16 + k)) (byte s (18 + 3 * byte s 16 + 1))
       gap law zero a b = absurd (not-suc-le-zero {n = 0} (omega arith))
@@ -301,25 +305,25 @@ module _ (s : List ℕ) (given : Bytes s) (f : Form s) (l : Lengths s) where
       (and-both
       (and-both
       (between-tested 2 (byte s (word s 12)) 255
-      (record { least = omega (arith, t .turn-length .least, first-byte); most = omega (arith, t .turn-length .most, first-byte) }))
+      (record { at-least = omega (arith, t .turn-length .at-least, first-byte); at-most = omega (arith, t .turn-length .at-most, first-byte) }))
       (between-tested 2 (byte s (word s 12 + 1)) 31
-      (record { least = omega (arith, t .dead-time .least, timing-byte 1); most = omega (arith, t .dead-time .most, timing-byte 1) })))
+      (record { at-least = omega (arith, t .dead-time .at-least, timing-byte 1); at-most = omega (arith, t .dead-time .at-most, timing-byte 1) })))
       (lt-ltb (byte s (word s 12 + 1)) (byte s (word s 12)) (omega (arith, t .dead-below-turn, first-byte, timing-byte 1))))
       (and-both (and-both (and-both (gap 2 (lit≤ tt) (lit≤ tt)) (gap 3 (lit≤ tt) (lit≤ tt))) (gap 4 (lit≤ tt) (lit≤ tt))) (gap 5 (lit≤ tt) (lit≤ tt))))
       (and-both (gap 6 (lit≤ tt) (lit≤ tt)) (gap 7 (lit≤ tt) (lit≤ tt))))
       (between-tested 2 (byte s (word s 12 + 9)) (byte s (word s 12 + 1))
-      (record { least = omega (arith, t .answer-delay .least, timing-byte 9); most = omega (arith, t .answer-delay .most, timing-byte 9, timing-byte 1) })))
+      (record { at-least = omega (arith, t .answer-delay .at-least, timing-byte 9); at-most = omega (arith, t .answer-delay .at-most, timing-byte 9, timing-byte 1) })))
       (between-tested 1 (byte s (word s 12 + 8)) (byte s (word s 12 + 9) - 1)
       (record {
-        least = omega (arith, t .column-delay .0, timing-byte 8);
-        most = omega (arith, t .column-delay .1, timing-byte 8, timing-byte 9);
+        at-least = omega (arith, t .column-delay .0, timing-byte 8);
+        at-most = omega (arith, t .column-delay .1, timing-byte 8, timing-byte 9);
       }))
     where
       gap : (k : ℕ) → 2 ≤ k → k ≤ 7 → within 1 (byte s (word s 12 + k)) (byte s (word s 12 + 1)) ≡ true
       gap k a b =
           let g = t .gaps k a b in
           between-tested 1 (byte s (word s 12 + k)) (byte s (word s 12 + 1))
-          (record { least = omega (arith, g .least, timing-byte k); most = omega (arith, g .most, timing-byte k, timing-byte 1) })
+          (record { at-least = omega (arith, g .at-least, timing-byte k); at-most = omega (arith, g .at-most, timing-byte k, timing-byte 1) })
 
 -- ---- the numbers
 
@@ -362,7 +366,7 @@ module _ (s : List ℕ) (given : Bytes s) where
 holds : {C : Type 0} {Cs : List (Type 0)} {k : ℕ} → FirstFails (C ∷ Cs) (suc k) 0 → C × FirstFails Cs (suc (suc k)) 0
 holds (later c rest) = (c, rest)
 
-held-numbers : (s : List ℕ) → FirstFails (conditions s) 1 0 → Held s
+held-numbers : (s : List ℕ) → FirstFails (conditions s) 1 0 → Encoded s
 held-numbers s fails =
     let a = holds fails in
     let b = holds (a .1) in
@@ -382,7 +386,7 @@ held-numbers s fails =
       timing = λ k. byte s (18 + 3 * byte s 16 + k);
       encoded =
           record {
-            count = form .count;
+            entries = form .entries;
             order-entry = record { kind-is = form .kinds .0; start-is = form .first-start; size-is = sizes .order-size };
             turns-entry =
                 record {
@@ -397,7 +401,7 @@ held-numbers s fails =
                   size-is = sizes .timing-size;
                 };
             whole = omega (arith, form .end, form .third-start, form .second-start, sizes .order-size, sizes .turns-size, sizes .timing-size);
-            classes = refl;
+            class-count = refl;
             rows = λ i l. refl;
             epoch-byte = refl;
             minimums = λ i l. refl;
@@ -405,32 +409,35 @@ held-numbers s fails =
           };
       sound =
           record {
-            classes = sizes .classes;
+            count-bounds = sizes .count-bounds;
             no-other-bit = c .0 .no-other-bit;
             reflexive = c .0 .own;
             antisymmetric = d .0;
             transitive = e .0;
-            least = f .0;
+            lowest = f .0;
             turns = g .0;
             timing-sound = h .0;
           };
     }
 
-module _ (s : List ℕ) (h : Held s) where
+module _ (s : List ℕ) (h : Encoded s) where
   count-is : byte s 16 ≡ h .n
-  count-is = h .encoded .classes
+  count-is = h .encoded .class-count
 
   -- the file's order is that of the numbers it encodes
-  same-bits : (i j : ℕ) → i < h .n → bits (h .row) i j ≡ order s i j
-  same-bits i j l = ap (λ (m : ℕ). member m j) (sym (h .encoded .rows i l))
+  same-bits : (i j : ℕ) → isClassIn (h .n) i ≡ true → bits (h .row) i j ≡ fileOrder s i j
+  same-bits i j l = ap (λ (m : ℕ). member m j) (sym (h .encoded .rows i (orders.class-below (h .n) i l)))
+
+  same-class : (i : ℕ) → isClassIn (byte s 16) i ≡ isClassIn (h .n) i
+  same-class i = ap (λ (n : ℕ). isClassIn n i) count-is
 
   form-holds : Form s
   form-holds =
       let e = h .encoded in
-      let few = h .sound .classes in
+      let few = h .sound .count-bounds in
       record {
-        few = record { least = omega (arith, e .whole, few .least); most = omega (arith, e .whole, few .most) };
-        count = e .count;
+        length-bounds = record { at-least = omega (arith, e .whole, few .at-least); at-most = omega (arith, e .whole, few .at-most) };
+        entries = e .entries;
         kinds = (e .order-entry .kind-is, e .turns-entry .kind-is, e .timing-entry .kind-is);
         first-start = e .order-entry .start-is;
         second-start = omega (arith, e .turns-entry .start-is, e .order-entry .size-is);
@@ -441,11 +448,11 @@ module _ (s : List ℕ) (h : Held s) where
   lengths-hold : Lengths s
   lengths-hold =
       let e = h .encoded in
-      let few = h .sound .classes in
+      let few = h .sound .count-bounds in
       record {
-        classes = record { least = omega (arith, few .least, e .classes); most = omega (arith, few .most, e .classes) };
-        order-size = omega (arith, e .order-entry .size-is, e .classes);
-        turns-size = omega (arith, e .turns-entry .size-is, e .classes);
+        count-bounds = record { at-least = omega (arith, few .at-least, e .class-count); at-most = omega (arith, few .at-most, e .class-count) };
+        order-size = omega (arith, e .order-entry .size-is, e .class-count);
+        turns-size = omega (arith, e .turns-entry .size-is, e .class-count);
         timing-size = e .timing-entry .size-is;
       }
 
@@ -454,11 +461,11 @@ module _ (s : List ℕ) (h : Held s) where
       record {
         no-other-bit =
             λ i j l t.
-            let class : i < h .n = omega (arith, count-is) in
-            omega (arith, count-is, h .sound .no-other-bit i j class (same-bits i j class ∙ t));
+            let class = sym (same-class i) ∙ l in
+            same-class j ∙ h .sound .no-other-bit i j class (same-bits i j class ∙ t);
         own =
             λ i l.
-            let class : i < h .n = omega (arith, count-is) in
+            let class = sym (same-class i) ∙ l in
             sym (same-bits i i class) ∙ h .sound .reflexive i class;
       }
 
@@ -484,23 +491,21 @@ module _ (s : List ℕ) (h : Held s) where
             λ k a b.
             let here : k < 10 = omega arith in
             let g = t .gaps k a b in
-            record { least = omega (arith, at k here, g .least); most = omega (arith, at k here, at 1 (lit< tt), g .most) };
+            record { at-least = omega (arith, at k here, g .at-least); at-most = omega (arith, at k here, at 1 (lit< tt), g .at-most) };
         answer-delay =
             record {
-              least = omega (arith, at 9 (lit< tt), t .answer-delay .least);
-              most = omega (arith, at 9 (lit< tt), at 1 (lit< tt), t .answer-delay .most);
+              at-least = omega (arith, at 9 (lit< tt), t .answer-delay .at-least);
+              at-most = omega (arith, at 9 (lit< tt), at 1 (lit< tt), t .answer-delay .at-most);
             };
         column-delay = (omega (arith, at 8 (lit< tt), t .column-delay .0), omega (arith, at 8 (lit< tt), at 9 (lit< tt), t .column-delay .1));
       })
 
-  least-holds : (i : ℕ) × (i < byte s 16) × Least (byte s 16) (order s) i
+  least-holds : (i : ℕ) × (isClassIn (byte s 16) i ≡ true) × Least (isClassIn (byte s 16)) (fileOrder s) i
   least-holds =
-      let w = h .sound .least in (
+      let w = h .sound .lowest in (
         w .0,
-        omega (arith, count-is, w .1),
-        λ j l.
-            let class : j < h .n = omega (arith, count-is) in
-            sym (same-bits (w .0) j (w .1)) ∙ w .2 j class,
+        same-class (w .0) ∙ w .1,
+        λ j l. sym (same-bits (w .0) j (w .1)) ∙ w .2 j (sym (same-class j) ∙ l),
       )
 
   all-hold : FirstFails (conditions s) 1 0
@@ -509,9 +514,9 @@ module _ (s : List ℕ) (h : Held s) where
       (later lengths-hold
       (later rows-hold
       (later
-      (subst (λ (m : ℕ). Antisymmetric m (order s)) (sym count-is) (antisymmetric-same (h .n) (bits (h .row)) (order s) same-bits (h .sound .antisymmetric)))
+      (subst (λ (m : ℕ). Antisymmetric (isClassIn m) (fileOrder s)) (sym count-is) (antisymmetric-same (isClassIn (h .n)) (bits (h .row)) (fileOrder s) same-bits (h .sound .antisymmetric)))
       (later
-      (subst (λ (m : ℕ). Transitive m (order s)) (sym count-is) (transitive-same (h .n) (bits (h .row)) (order s) same-bits (h .sound .transitive)))
+      (subst (λ (m : ℕ). Transitive (isClassIn m) (fileOrder s)) (sym count-is) (transitive-same (isClassIn (h .n)) (bits (h .row)) (fileOrder s) same-bits (h .sound .transitive)))
       (later least-holds (later turns-hold (later timing-holds none)))))))
 
   -- the policy held is that of the numbers
@@ -576,8 +581,8 @@ module _ (s : List ℕ) (given : Bytes s) (taken : status s ≡ 0) where
   tests : (contentsFit s ≡ true) × (lengthsFit s ≡ true) × (refusal (held s) ≡ 0)
   unfolding status fileTests refusal
   tests =
-      let a = passes 0 (contentsFit s) (lengthsFit s ∷ policyTests (held s)) taken in
-      let b = passes 1 (lengthsFit s) (policyTests (held s)) (a .1) in
+      let a = first-passes 0 (contentsFit s) (lengthsFit s ∷ policyTests (held s)) taken in
+      let b = first-passes 1 (lengthsFit s) (policyTests (held s)) (a .1) in
       (a .0, b .0, b .1)
 
   sizes : Lengths s
@@ -603,13 +608,13 @@ module _ (s : List ℕ) (given : Bytes s) (taken : status s ≡ 0) where
       (eq-eqb _ _ (getD-listOf (coverSet (listOf 16 (rowAt s))) 16 i l))
       (eq-eqb _ _ (getD-listOf (capIn (byte s 16) (listOf 16 (rowAt s)) (epochOf s) (listOf 16 (minimumAt s))) 16 i l)))
       (⊎-elim
-      (λ b. or-left (ltb i (byte s 16)) _ (lt-ltb i (byte s 16) b))
-      (λ b. or-right (ltb i (byte s 16)) _ (eq-eqb _ 0 (minimum-void s given (form-said s (tests .0)) sizes i b)))
-      (lt-or-ge i (byte s 16))))
+      (λ b. or-left (isClassIn (byte s 16) i) _ b)
+      (λ b. or-right (isClassIn (byte s 16) i) _ (eq-eqb _ 0 (minimum-void s given (form-said s (tests .0)) sizes i (orders.past-classes (byte s 16) i b))))
+      (either (isClassIn (byte s 16) i))))
 
   held-in-range : inRange (held s) ≡ true
   unfolding inRange held classCount
-  held-in-range = and-both (and-both (and-both held-shaped (between-tested 1 (byte s 16) 16 (sizes .classes))) (eq-eqb (refusal (held s)) 0 (tests .2))) held-stored
+  held-in-range = and-both (and-both (and-both held-shaped (between-tested 1 (byte s 16) 16 (sizes .count-bounds))) (eq-eqb (refusal (held s)) 0 (tests .2))) held-stored
 
 -- the policy handed back where the status is 0
 policy-held : (s : List ℕ) → status s ≡ 0 → readFile s .policy ≡ held s

@@ -1,8 +1,8 @@
--- Laws of truth values: what a test that passed or failed says of its parts.
+-- Laws of truth values: what a test that passed or failed says of its parts, and what it picks.
 -- Assumes nothing.
-use mathlib.Core.Path.{_≡_, refl, sym, _∙_}
+use mathlib.Core.Path.{_≡_, refl, sym, ap, ap₂, _∙_}
 use mathlib.Core.Logic.{_⊎_, inl, inr}
-use mathlib.Core.Bool.{Bool, true, false, not, _&&_, _||_, true≢false, false≢true, and-eq-true-iff}
+use mathlib.Core.Bool.{Bool, true, false, cond, not, _&&_, _||_, true≢false, false≢true, and-eq-true-iff}
 
 -- a truth value is one of the two
 pub either : (b : Bool) → (b ≡ true) ⊎ (b ≡ false)
@@ -63,10 +63,14 @@ implication true b h = h refl
 implication false b h = refl
 
 -- it fails exactly where a holds and b does not
-pub implies-not : (a b : Bool) → (not a || b) ≡ not (a && not b)
+implies-not : (a b : Bool) → (not a || b) ≡ not (a && not b)
 implies-not true true = refl
 implies-not true false = refl
 implies-not false b = refl
+
+-- what the code's question `x && not y` tells of it, where x and y are the answers for a and b
+pub implies-asked : {a b x y v : Bool} → x ≡ a → y ≡ b → (x && not y) ≡ v → (not a || b) ≡ not v
+implies-asked {a} {b} p q e = implies-not a b ∙ ap not (ap₂ (λ (c d : Bool). c && not d) (sym p) (sym q) ∙ e)
 
 -- what already follows adds nothing
 pub or-implied : (a b : Bool) → ((b ≡ true) → a ≡ true) → (a || b) ≡ a
@@ -108,3 +112,23 @@ and-comm false false = refl
 pub or-false : (a : Bool) → (a || false) ≡ a
 or-false true = refl
 or-false false = refl
+
+-- ---- what a test picks
+
+pub on-true : {A : Type 0} (b : Bool) (x y : A) → b ≡ true → (elim b as (λ z. A) [ true ↦ x | false ↦ y ]) ≡ x
+on-true true x y e = refl
+on-true false x y e = absurd (not-both e refl)
+
+pub on-false : {A : Type 0} (b : Bool) (x y : A) → b ≡ false → (elim b as (λ z. A) [ true ↦ x | false ↦ y ]) ≡ y
+on-false true x y e = absurd (not-both refl e)
+on-false false x y e = refl
+
+-- of two equal ones
+pub on-either : {A : Type 0} (b : Bool) (x : A) → cond b x x ≡ x
+on-either true x = refl
+on-either false x = refl
+
+-- of two with a property
+pub on-both : {A : Type 0} (P : A → Type 0) (b : Bool) (x y : A) → P x → P y → P (cond b x y)
+on-both P true x y v w = v
+on-both P false x y v w = w

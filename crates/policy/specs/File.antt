@@ -29,8 +29,8 @@ kind s e = byte s (1 + 5 * e)
 unfoldable pub start : List ℕ → ℕ → ℕ
 start s e = word s (2 + 5 * e)
 
-unfoldable pub size : List ℕ → ℕ → ℕ
-size s e = word s (4 + 5 * e)
+unfoldable pub bodySize : List ℕ → ℕ → ℕ
+bodySize s e = word s (4 + 5 * e)
 
 -- "kind (1 order, 2 turns, 3 timing, in that order)"
 unfoldable pub kindsFit : List ℕ → Bool
@@ -40,9 +40,9 @@ kindsFit s = eqb (byte s 0) 3 && eqb (kind s 0) 1 && eqb (kind s 1) 2 && eqb (ki
 unfoldable pub bodiesAbut : List ℕ → Bool
 bodiesAbut s =
     eqb (start s 0) 16
-    && eqb (start s 1) (16 + size s 0)
-    && eqb (start s 2) (start s 1 + size s 1)
-    && eqb (length s) (start s 2 + size s 2)
+    && eqb (start s 1) (16 + bodySize s 0)
+    && eqb (start s 2) (start s 1 + bodySize s 1)
+    && eqb (length s) (start s 2 + bodySize s 2)
 
 -- 1: "file under 17 or above 65,535 bytes, or contents not as above, lengths apart"
 unfoldable pub contentsFit : List ℕ → Bool
@@ -58,15 +58,15 @@ classCount s = byte s 16
 unfoldable pub lengthsFit : List ℕ → Bool
 lengthsFit s =
     within 1 (classCount s) 16
-    && eqb (size s 0) (1 + 2 * classCount s)
-    && eqb (size s 1) (1 + classCount s)
-    && eqb (size s 2) 10
+    && eqb (bodySize s 0) (1 + 2 * classCount s)
+    && eqb (bodySize s 1) (1 + classCount s)
+    && eqb (bodySize s 2) 10
 
--- the row of class i; a number that is no class has row 0
+-- row i; the file has n, and where it has none it is 0
 unfoldable pub rowAt : List ℕ → ℕ → ℕ
 rowAt s i = cond (ltb i (classCount s)) (word s (17 + 2 * i)) 0
 
--- "Turns: epoch length E in turns (1 to 64), then n minimums, one byte each"; a number that is no class has minimum 0
+-- "Turns: epoch length E in turns (1 to 64), then n minimums, one byte each"; where the file has none it is 0
 unfoldable pub epochOf : List ℕ → ℕ
 epochOf s = byte s (start s 1)
 

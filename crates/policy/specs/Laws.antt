@@ -6,42 +6,52 @@ use mathlib.Core.Bool.{Bool, true}
 use Prim.Native.Nat.{ℕ, _+_, _^_, _≤_, _<_}
 use lib.ListN.{length, getD}
 use Rattle.policy.specs.Mask.{member}
+use Rattle.policy.specs.Order.{isClassIn}
 use Rattle.policy.specs.Turns.{minimumsAbove}
-use Rattle.policy.specs.Policy.{flows, strictly, least, above, coversOf, coverCount, cover, cap}
+use Rattle.policy.specs.Policy.{isClass, flows, strictly, least, above, coversOf, coverCount, cover, cap}
 use Rattle.policy.specs.declared.Timing.{Timing}
 use Rattle.policy.specs.declared.Policy.{Policy}
 
--- ---- what an order is, of any relation on the numbers below n
+-- ---- what an order is, of any relation among the numbers that pass a test
 
-abbrev pub Reflexive : ℕ → (ℕ → ℕ → Bool) → Type 0
-Reflexive n R = (i : ℕ) → i < n → R i i ≡ true
+abbrev pub Reflexive : (ℕ → Bool) → (ℕ → ℕ → Bool) → Type 0
+Reflexive among R = (i : ℕ) → among i ≡ true → R i i ≡ true
 
-abbrev pub Antisymmetric : ℕ → (ℕ → ℕ → Bool) → Type 0
-Antisymmetric n R = (i j : ℕ) → i < n → j < n → R i j ≡ true → R j i ≡ true → i ≡ j
+abbrev pub Antisymmetric : (ℕ → Bool) → (ℕ → ℕ → Bool) → Type 0
+Antisymmetric among R = (i j : ℕ) → among i ≡ true → among j ≡ true → R i j ≡ true → R j i ≡ true → i ≡ j
 
-abbrev pub Transitive : ℕ → (ℕ → ℕ → Bool) → Type 0
-Transitive n R = (i j k : ℕ) → i < n → j < n → k < n → R i j ≡ true → R j k ≡ true → R i k ≡ true
+abbrev pub Transitive : (ℕ → Bool) → (ℕ → ℕ → Bool) → Type 0
+Transitive among R = (i j k : ℕ) → among i ≡ true → among j ≡ true → among k ≡ true → R i j ≡ true → R j k ≡ true → R i k ≡ true
 
--- i may flow to every class
-abbrev pub Least : ℕ → (ℕ → ℕ → Bool) → ℕ → Type 0
-Least n R i = (j : ℕ) → j < n → R i j ≡ true
+-- i may flow to every one of them
+abbrev pub Least : (ℕ → Bool) → (ℕ → ℕ → Bool) → ℕ → Type 0
+Least among R i = (j : ℕ) → among j ≡ true → R i j ≡ true
+
+-- ---- the classes
+
+-- what is stored of the classes makes each of them one of the sixteen numbers
+abbrev pub SmallClasses : ℕ → Type 0
+SmallClasses n = (i : ℕ) → isClassIn n i ≡ true → i < 16
 
 -- ---- the laws
 
 -- "The order must be reflexive, antisymmetric and transitive"; only classes flow, and only to classes
 pub record OrderLaws (p : Policy) : Type 0 where
   pub classes-few : (1 ≤ p .classes) × (p .classes ≤ 16)
-  pub from-class : (i j : ℕ) → flows p i j ≡ true → i < p .classes
-  pub to-class : (i j : ℕ) → flows p i j ≡ true → j < p .classes
-  pub reflexive : Reflexive (p .classes) (flows p)
+  -- a class is one of the sixteen numbers, and 0 is one
+  pub class-small : (i : ℕ) → isClass p i ≡ true → i < 16
+  pub zero-class : isClass p 0 ≡ true
+  pub from-class : (i j : ℕ) → flows p i j ≡ true → isClass p i ≡ true
+  pub to-class : (i j : ℕ) → flows p i j ≡ true → isClass p j ≡ true
+  pub reflexive : Reflexive (isClass p) (flows p)
   pub antisymmetric : (i j : ℕ) → flows p i j ≡ true → flows p j i ≡ true → i ≡ j
   pub transitive : (i j k : ℕ) → flows p i j ≡ true → flows p j k ≡ true → flows p i k ≡ true
 
 -- "with a least class": it exists, is the one found, and is the only one
 pub record LeastLaws (p : Policy) : Type 0 where
-  pub is-class : least p < p .classes
-  pub is-least : Least (p .classes) (flows p) (least p)
-  pub alone : (i : ℕ) → i < p .classes → Least (p .classes) (flows p) i → i ≡ least p
+  pub is-class : isClass p (least p) ≡ true
+  pub is-least : Least (isClass p) (flows p) (least p)
+  pub alone : (i : ℕ) → isClass p i ≡ true → Least (isClass p) (flows p) i → i ≡ least p
 
 -- j covers i: it is strictly above, and nothing lies strictly between
 pub record Covering (p : Policy) (i j : ℕ) : Type 0 where
@@ -72,8 +82,8 @@ pub record AboveLaws (p : Policy) : Type 0 where
 -- "A class's cap is E less the minimums of all classes strictly above it."
 pub record CapLaws (p : Policy) : Type 0 where
   pub epoch-bounds : (1 ≤ p .epoch) × (p .epoch ≤ 64)
-  pub is-rest : (i : ℕ) → i < p .classes → cap p i + minimumsAbove (p .rows) (p .minimums) i ≡ p .epoch
-  pub at-least-own : (i : ℕ) → i < p .classes → getD (p .minimums) i 0 ≤ cap p i
+  pub is-rest : (i : ℕ) → isClass p i ≡ true → cap p i + minimumsAbove (p .rows) (p .minimums) i ≡ p .epoch
+  pub at-least-own : (i : ℕ) → isClass p i ≡ true → getD (p .minimums) i 0 ≤ cap p i
   pub at-most-epoch : (i : ℕ) → cap p i ≤ p .epoch
   -- one is stored for each of the sixteen numbers
   pub sixteen : length (p .caps) ≡ 16

@@ -1,5 +1,5 @@
 -- The order: rows of 16 bits, "Bit j of row i is set if class i may flow to class j". A list of rows has one for each of the sixteen class numbers;
--- those at or above the class count are no classes, and their rows are 0.
+-- those of numbers that are no classes are 0.
 use mathlib.Core.Bool.{Bool, cond, not, _&&_, _||_}
 use mathlib.Core.List.{List}
 use Prim.Native.Nat.{ℕ}
@@ -7,6 +7,14 @@ use lib.Dec.{ltb, eqb}
 use lib.ListN.{getD}
 use Rattle.policy.specs.Below.{every, some, first, count, setOf}
 use Rattle.policy.specs.Mask.{member, belowMask, includes}
+
+-- "n (1 to 16)": a class is a number below the class count. What a policy stores of its classes is n, and this alone says which numbers are among them.
+unfoldable pub isClassIn : ℕ → ℕ → Bool
+isClassIn n i = ltb i n
+
+-- all of them, as a set
+abbrev pub classSet : ℕ → ℕ
+classSet n = belowMask n
 
 -- class i may flow to class j
 unfoldable pub flowsIn : List ℕ → ℕ → ℕ → Bool
@@ -16,9 +24,9 @@ flowsIn rows i j = member (getD rows i 0) j
 unfoldable pub strictlyIn : List ℕ → ℕ → ℕ → Bool
 strictlyIn rows i j = not (eqb i j) && flowsIn rows i j
 
--- 3: "a row has a bit at n or above, or lacks its own"; at and above n there are no rows
+-- 3: "a row has a bit at n or above, or lacks its own"; a number that is no class has no row
 unfoldable pub rowFits : ℕ → ℕ → ℕ → Bool
-rowFits n i row = cond (ltb i n) (includes (belowMask n) row && member row i) (eqb row 0)
+rowFits n i row = cond (isClassIn n i) (includes (classSet n) row && member row i) (eqb row 0)
 
 unfoldable pub rowsFit : ℕ → List ℕ → Bool
 rowsFit n rows = every 16 (λ i. rowFits n i (getD rows i 0))
@@ -39,7 +47,7 @@ transitive rows = every 16 (transitiveAt rows)
 
 -- class i may flow to every class
 unfoldable pub leastAt : ℕ → List ℕ → ℕ → Bool
-leastAt n rows i = ltb i n && includes (getD rows i 0) (belowMask n)
+leastAt n rows i = isClassIn n i && includes (getD rows i 0) (classSet n)
 
 -- 6: "no least class"
 unfoldable pub hasLeast : ℕ → List ℕ → Bool

@@ -6,14 +6,14 @@ use lib.Dec.{ltb, eqb}
 use lib.ListN.{length, getD}
 use Rattle.policy.specs.Below.{every}
 use Rattle.policy.specs.Mask.{size, nth}
-use Rattle.policy.specs.Order.{flowsIn, strictlyIn, rowsFit, antisymmetric, transitive, hasLeast, leastIn, coverSet, aboveIn}
+use Rattle.policy.specs.Order.{isClassIn, flowsIn, strictlyIn, rowsFit, antisymmetric, transitive, hasLeast, leastIn, coverSet, aboveIn}
 use Rattle.policy.specs.Turns.{turnsSound, capIn}
 use Rattle.policy.specs.Timing.{timingSound, within}
 use Rattle.policy.specs.declared.Policy.{Policy}
 
--- "class": a number below the class count
+-- i is a class of this policy
 unfoldable pub isClass : Policy → ℕ → Bool
-isClass p i = ltb i (p .classes)
+isClass p i = isClassIn (p .classes) i
 
 -- class i may flow to class j
 unfoldable pub flows : Policy → ℕ → ℕ → Bool

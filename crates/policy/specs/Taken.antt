@@ -9,7 +9,7 @@ use lib.Dec.{ltb}
 use lib.ListN.{length}
 use Rattle.policy.specs.Below.{sum, listOf}
 use Rattle.policy.specs.Mask.{member}
-use Rattle.policy.specs.Order.{coverSet}
+use Rattle.policy.specs.Order.{isClassIn, coverSet}
 use Rattle.policy.specs.Turns.{capIn}
 use Rattle.policy.specs.Policy.{inRange}
 use Rattle.policy.specs.File.{byte, word, readFile}
@@ -24,8 +24,8 @@ Bytes s = (i : ℕ) → byte s i < 256
 
 -- low ≤ x ≤ high
 pub record Between (low x high : ℕ) : Type 0 where
-  pub least : low ≤ x
-  pub most : x ≤ high
+  pub at-least : low ≤ x
+  pub at-most : x ≤ high
 
 -- "epoch length E in turns (1 to 64), then n minimums .., their sum at most E"
 pub record SoundTurns (n epoch : ℕ) (minimum : ℕ → ℕ) : Type 0 where
@@ -48,12 +48,12 @@ bits row i j = member (row i) j
 
 -- "The order must be reflexive, antisymmetric and transitive with a least class", sound turns and timing, for 1 to 16 classes, and no bit at n or above
 pub record Sound (n : ℕ) (row : ℕ → ℕ) (epoch : ℕ) (minimum timing : ℕ → ℕ) : Type 0 where
-  pub classes : Between 1 n 16
-  pub no-other-bit : (i j : ℕ) → i < n → bits row i j ≡ true → j < n
-  pub reflexive : Reflexive n (bits row)
-  pub antisymmetric : Antisymmetric n (bits row)
-  pub transitive : Transitive n (bits row)
-  pub least : (i : ℕ) × (i < n) × Least n (bits row) i
+  pub count-bounds : Between 1 n 16
+  pub no-other-bit : (i j : ℕ) → isClassIn n i ≡ true → bits row i j ≡ true → isClassIn n j ≡ true
+  pub reflexive : Reflexive (isClassIn n) (bits row)
+  pub antisymmetric : Antisymmetric (isClassIn n) (bits row)
+  pub transitive : Transitive (isClassIn n) (bits row)
+  pub lowest : (i : ℕ) × (isClassIn n i ≡ true) × Least (isClassIn n) (bits row) i
   pub turns : SoundTurns n epoch minimum
   pub timing-sound : SoundTiming timing
 
@@ -67,12 +67,12 @@ pub record Entry (s : List ℕ) (at kind start size : ℕ) : Type 0 where
 
 -- the file holds these numbers: "Byte 0 is 3. Then three entries ..", the order body from byte 16 on, the turns body after it, the timing body after that, and no more
 pub record Encodes (s : List ℕ) (n : ℕ) (row : ℕ → ℕ) (epoch : ℕ) (minimum timing : ℕ → ℕ) : Type 0 where
-  pub count : byte s 0 ≡ 3
+  pub entries : byte s 0 ≡ 3
   pub order-entry : Entry s 1 1 16 (1 + 2 * n)
   pub turns-entry : Entry s 6 2 (17 + 2 * n) (1 + n)
   pub timing-entry : Entry s 11 3 (18 + 3 * n) 10
   pub whole : length s ≡ 28 + 3 * n
-  pub classes : byte s 16 ≡ n
+  pub class-count : byte s 16 ≡ n
   pub rows : (i : ℕ) → i < n → word s (17 + 2 * i) ≡ row i
   pub epoch-byte : byte s (17 + 2 * n) ≡ epoch
   pub minimums : (i : ℕ) → i < n → byte s (18 + 2 * n + i) ≡ minimum i
@@ -103,7 +103,7 @@ policyOf n row epoch minimum timing =
 
 -- ---- taken, if and only if
 
-pub record Held (s : List ℕ) : Type 0 where
+pub record Encoded (s : List ℕ) : Type 0 where
   pub n : ℕ
   pub row : ℕ → ℕ
   pub epoch : ℕ
@@ -114,9 +114,9 @@ pub record Held (s : List ℕ) : Type 0 where
 
 pub record TakenIff (s : List ℕ) : Type 0 where
   -- status 0 exactly if the file encodes sound numbers
-  pub taken : (readFile s .status ≡ 0) ↔ Held s
+  pub taken : (readFile s .status ≡ 0) ↔ Encoded s
   -- and then the policy is the one of those numbers
-  pub policy-is : (h : Held s) → readFile s .policy ≡ policyOf (h .n) (h .row) (h .epoch) (h .minimum) (h .timing)
+  pub policy-is : (h : Encoded s) → readFile s .policy ≡ policyOf (h .n) (h .row) (h .epoch) (h .minimum) (h .timing)
   -- "A policy is accepted if a fresh state asked of it does not get 13; each whose file gets none of 1 to 8 is."
   pub in-range : readFile s .status ≡ 0 → inRange (readFile s .policy) ≡ true
 
@@ -124,8 +124,8 @@ pub record TakenIff (s : List ℕ) : Type 0 where
 
 -- 1: "file under 17 or above 65,535 bytes, or contents not as above, lengths apart"
 pub record Form (s : List ℕ) : Type 0 where
-  pub few : Between 17 (length s) 65535
-  pub count : byte s 0 ≡ 3
+  pub length-bounds : Between 17 (length s) 65535
+  pub entries : byte s 0 ≡ 3
   pub kinds : (byte s 1 ≡ 1) × (byte s 6 ≡ 2) × (byte s 11 ≡ 3)
   pub first-start : word s 2 ≡ 16
   pub second-start : word s 7 ≡ 16 + word s 4
@@ -134,19 +134,19 @@ pub record Form (s : List ℕ) : Type 0 where
 
 -- 2: "n not 1 to 16, or a body's length does not fit it"
 pub record Lengths (s : List ℕ) : Type 0 where
-  pub classes : Between 1 (byte s 16) 16
+  pub count-bounds : Between 1 (byte s 16) 16
   pub order-size : word s 4 ≡ 1 + 2 * byte s 16
   pub turns-size : word s 9 ≡ 1 + byte s 16
   pub timing-size : word s 14 ≡ 10
 
 -- the order that the file's rows give
-abbrev pub order : List ℕ → ℕ → ℕ → Bool
-order s i j = member (word s (17 + 2 * i)) j
+abbrev pub fileOrder : List ℕ → ℕ → ℕ → Bool
+fileOrder s i j = member (word s (17 + 2 * i)) j
 
 -- 3: "a row has a bit at n or above, or lacks its own"
 pub record Rows (s : List ℕ) : Type 0 where
-  pub no-other-bit : (i j : ℕ) → i < byte s 16 → order s i j ≡ true → j < byte s 16
-  pub own : Reflexive (byte s 16) (order s)
+  pub no-other-bit : (i j : ℕ) → isClassIn (byte s 16) i ≡ true → fileOrder s i j ≡ true → isClassIn (byte s 16) j ≡ true
+  pub own : Reflexive (isClassIn (byte s 16)) (fileOrder s)
 
 -- 1 to 8 of "What is turned down", in its order: what each asks of the file's numbers
 abbrev pub conditions : List ℕ → List (Type 0)
@@ -155,9 +155,9 @@ conditions s =
     Form s
     ∷ Lengths s
     ∷ Rows s
-    ∷ Antisymmetric n (order s)
-    ∷ Transitive n (order s)
-    ∷ ((i : ℕ) × (i < n) × Least n (order s) i)
+    ∷ Antisymmetric (isClassIn n) (fileOrder s)
+    ∷ Transitive (isClassIn n) (fileOrder s)
+    ∷ ((i : ℕ) × (isClassIn n i ≡ true) × Least (isClassIn n) (fileOrder s) i)
     ∷ SoundTurns n (byte s (17 + 2 * n)) (λ i. byte s (18 + 2 * n + i))
     ∷ SoundTiming (λ k. byte s (18 + 3 * n + k))
     ∷ []

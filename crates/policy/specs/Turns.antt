@@ -1,12 +1,12 @@
 -- The turns: "epoch length E in turns (1 to 64), then n minimums, one byte each, their sum at most E". A list of minimums has one for each of the
--- sixteen class numbers; those at or above the class count are 0.
+-- sixteen class numbers; those of numbers that are no classes are 0.
 use mathlib.Core.Bool.{Bool, cond, _&&_}
 use mathlib.Core.List.{List}
 use Prim.Native.Nat.{ℕ, _-_}
-use lib.Dec.{leb, ltb}
+use lib.Dec.{leb}
 use lib.ListN.{getD}
 use Rattle.policy.specs.Below.{sum}
-use Rattle.policy.specs.Order.{strictlyIn}
+use Rattle.policy.specs.Order.{isClassIn, strictlyIn}
 
 -- the sum of all minimums
 unfoldable pub minimumsSum : List ℕ → ℕ
@@ -22,4 +22,4 @@ minimumsAbove rows minimums i = sum 16 (λ j. cond (strictlyIn rows i j) (getD m
 
 -- "A class's cap is E less the minimums of all classes strictly above it." A number that is no class has none: 0.
 unfoldable pub capIn : ℕ → List ℕ → ℕ → List ℕ → ℕ → ℕ
-capIn n rows epoch minimums i = cond (ltb i n) (epoch - minimumsAbove rows minimums i) 0
+capIn n rows epoch minimums i = cond (isClassIn n i) (epoch - minimumsAbove rows minimums i) 0

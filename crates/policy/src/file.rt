@@ -2,7 +2,7 @@
 
 ghost use mathlib.Core.Path.{_≡_};
 ghost use Prim.Native.Nat.{_<_};
-ghost use Rattle.policy.specs.File.{byte, word, start, size, kindsFit, bodiesAbut, contentsFit, lengthsFit, rowAt, minimumAt, timingOf, held, noPolicy, refusedWith, readFile};
+ghost use Rattle.policy.specs.File.{byte, word, start, bodySize, kindsFit, bodiesAbut, contentsFit, lengthsFit, rowAt, minimumAt, timingOf, held, noPolicy, refusedWith, readFile};
 ghost use Rattle.policy.specs.Below.{listOf};
 ghost use Rattle.policy.specs.Order.{coverSet};
 ghost use Rattle.policy.specs.Turns.{capIn};
@@ -47,9 +47,9 @@ fn start(s: &[u8], entry: usize) -> u16
     word(s, 2 + 5 * entry)
 }
 
-fn size(s: &[u8], entry: usize) -> u16
+fn body_size(s: &[u8], entry: usize) -> u16
     requires { ⌜ entry < 3 ⌝ }
-    ensures { λ r. ⌜ r ≡ size (now (s .entry)) entry ⌝ }
+    ensures { λ r. ⌜ r ≡ bodySize (now (s .entry)) entry ⌝ }
 {
     word(s, 4 + 5 * entry)
 }
@@ -68,9 +68,9 @@ fn bodies_abut(s: &[u8]) -> bool
     let turns = start(s, 1) as usize;
     let timing = start(s, 2) as usize;
     (start(s, 0) == 16)
-        & (turns == 16 + size(s, 0) as usize)
-        & (timing == turns + size(s, 1) as usize)
-        & (s.len() == timing + size(s, 2) as usize)
+        & (turns == 16 + body_size(s, 0) as usize)
+        & (timing == turns + body_size(s, 1) as usize)
+        & (s.len() == timing + body_size(s, 2) as usize)
 }
 
 // 1: the file's size and its contents table.
@@ -87,9 +87,9 @@ fn lengths_fit(s: &[u8]) -> bool
     let n = byte(s, 16) as usize;
     (1 <= n)
         & (n <= 16)
-        & (size(s, 0) as usize == 1 + 2 * n)
-        & (size(s, 1) as usize == 1 + n)
-        & (size(s, 2) == 10)
+        & (body_size(s, 0) as usize == 1 + 2 * n)
+        & (body_size(s, 1) as usize == 1 + n)
+        & (body_size(s, 2) == 10)
 }
 
 fn row_at(s: &[u8], i: usize) -> u16

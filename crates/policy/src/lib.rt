@@ -6,8 +6,8 @@ ghost use Rattle.policy.specs.Policy.{flows, strictly, least, above, cov
 pub mod file;
 pub mod mask;
 pub mod order;
-pub mod timings;
-pub mod turns;
+mod timings;
+mod turns;
 
 // The ten numbers of the timing body. A kind is 0 for a read and 1 for a write.
 pub struct Timing {
@@ -144,7 +144,7 @@ fn stored_fits(p: Policy, class: usize) -> bool
     let minimums = p.minimums;
     (covers_of(p, class) == order::cover_set(rows, class))
         & (cap(p, class) == turns::cap_in(p.classes, rows, p.epoch, minimums, class))
-        & ((class < p.classes) | (turns::number_of(minimums, class) == 0))
+        & (order::is_class(p.classes, class) | (turns::number_of(minimums, class) == 0))
 }
 
 fn all_stored_fits(p: Policy) -> bool

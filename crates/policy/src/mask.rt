@@ -33,14 +33,14 @@ pub fn has(set: u16, class: usize) -> bool
 }
 
 // Whether every class of `part` is in the set.
-pub fn includes(set: u16, part: u16) -> bool
+pub(crate) fn includes(set: u16, part: u16) -> bool
     ensures { λ r. ⌜ r ≡ includes set part ⌝ }
 {
     (set | part) == set
 }
 
 // The classes of the set that are not in `part`.
-pub fn without(set: u16, part: u16) -> u16
+pub(crate) fn without(set: u16, part: u16) -> u16
     ensures { λ r. ⌜ r ≡ difference set part ⌝ }
 {
     (set | part) ^ part

@@ -3,42 +3,56 @@
 
 ghost use mathlib.Core.Path.{_≡_};
 ghost use lib.ListN.{getD};
-ghost use Rattle.policy.specs.Order.{flowsIn, strictlyIn, rowFits, rowsFit, antisymmetricAt, antisymmetric, transitiveAt, transitive, leastAt, leastIn, hasLeast, aboveSet, aboveSome, coverSet, aboveIn};
+ghost use Rattle.policy.specs.Order.{isClassIn, classSet, flowsIn, strictlyIn, rowFits, rowsFit, antisymmetricAt, antisymmetric, transitiveAt, transitive, leastAt, leastIn, hasLeast, aboveSet, aboveSome, coverSet, aboveIn};
 use super::mask;
 
 // A class's row. What a number above 15 has is open in document 01: 0 here.
-pub fn row_of(rows: [u16; 16], class: usize) -> u16
+pub(crate) fn row_of(rows: [u16; 16], class: usize) -> u16
     ensures { λ r. ⌜ r ≡ getD rows class 0 ⌝ }
 {
     if class < 16 { rows[class] } else { 0 }
 }
 
 // Whether class i may flow to class j. A number above 15, of which document 01 says nothing, flows nowhere, and nothing flows to it.
-pub fn flows_in(rows: [u16; 16], i: usize, j: usize) -> bool
+pub(crate) fn flows_in(rows: [u16; 16], i: usize, j: usize) -> bool
     ensures { λ r. ⌜ r ≡ flowsIn rows i j ⌝ }
 {
     mask::has(row_of(rows, i), j)
 }
 
 // Whether class i is strictly below class j.
-pub fn strictly_in(rows: [u16; 16], i: usize, j: usize) -> bool
+pub(crate) fn strictly_in(rows: [u16; 16], i: usize, j: usize) -> bool
     ensures { λ r. ⌜ r ≡ strictlyIn rows i j ⌝ }
 {
     (i != j) & flows_in(rows, i, j)
 }
 
+// Whether a number is a class: one below the class count.
+pub fn is_class(classes: usize, class: usize) -> bool
+    ensures { λ r. ⌜ r ≡ isClassIn classes class ⌝ }
+{
+    class < classes
+}
+
+// The set of all classes.
+fn class_set(classes: usize) -> u16
+    ensures { λ r. ⌜ r ≡ classSet classes ⌝ }
+{
+    mask::below_mask(classes)
+}
+
 fn row_fits(classes: usize, class: usize, row: u16) -> bool
     ensures { λ r. ⌜ r ≡ rowFits classes class row ⌝ }
 {
-    if class < classes {
-        mask::includes(mask::below_mask(classes), row) & mask::has(row, class)
+    if is_class(classes, class) {
+        mask::includes(class_set(classes), row) & mask::has(row, class)
     } else {
         row == 0
     }
 }
 
 // 3: no row has a bit at the class count or above, and each has its own.
-pub fn rows_fit(classes: usize, rows: [u16; 16]) -> bool
+pub(crate) fn rows_fit(classes: usize, rows: [u16; 16]) -> bool
     ensures { λ r. ⌜ r ≡ rowsFit classes rows ⌝ }
 {
     let mut i = 0;
@@ -65,7 +79,7 @@ fn antisymmetric_at(rows: [u16; 16], i: usize) -> bool
 }
 
 // 4: no two classes flow to each other.
-pub fn is_antisymmetric(rows: [u16; 16]) -> bool
+pub(crate) fn is_antisymmetric(rows: [u16; 16]) -> bool
     ensures { λ r. ⌜ r ≡ antisymmetric rows ⌝ }
 {
     let mut i = 0;
@@ -93,7 +107,7 @@ fn transitive_at(rows: [u16; 16], i: usize) -> bool
 }
 
 // 5: where i may flow to j, it may flow to whatever j may flow to.
-pub fn is_transitive(rows: [u16; 16]) -> bool
+pub(crate) fn is_transitive(rows: [u16; 16]) -> bool
     ensures { λ r. ⌜ r ≡ transitive rows ⌝ }
 {
     let mut i = 0;
@@ -109,7 +123,7 @@ pub fn is_transitive(rows: [u16; 16]) -> bool
 fn least_at(classes: usize, rows: [u16; 16], i: usize) -> bool
     ensures { λ r. ⌜ r ≡ leastAt classes rows i ⌝ }
 {
-    (i < classes) & mask::includes(row_of(rows, i), mask::below_mask(classes))
+    is_class(classes, i) & mask::includes(row_of(rows, i), class_set(classes))
 }
 
 // The least class. Where there is none, which document 01 leaves open, 16: no class.
@@ -127,14 +141,14 @@ pub fn least_in(classes: usize, rows: [u16; 16]) -> usize
 }
 
 // 6: there is a least class.
-pub fn has_least(classes: usize, rows: [u16; 16]) -> bool
+pub(crate) fn has_least(classes: usize, rows: [u16; 16]) -> bool
     ensures { λ r. ⌜ r ≡ hasLeast classes rows ⌝ }
 {
     least_in(classes, rows) < 16
 }
 
 // The classes strictly above a class.
-pub fn above_set(rows: [u16; 16], class: usize) -> u16
+fn above_set(rows: [u16; 16], class: usize) -> u16
     ensures { λ r. ⌜ r ≡ aboveSet rows class ⌝ }
 {
     mask::without(row_of(rows, class), mask::class_mask(class))
@@ -156,7 +170,7 @@ fn above_some(rows: [u16; 16], set: u16) -> u16
 }
 
 // The classes that cover a class: those above it with nothing between.
-pub fn cover_set(rows: [u16; 16], class: usize) -> u16
+pub(crate) fn cover_set(rows: [u16; 16], class: usize) -> u16
     ensures { λ r. ⌜ r ≡ coverSet rows class ⌝ }
 {
     let above = above_set(rows, class);
@@ -164,7 +178,7 @@ pub fn cover_set(rows: [u16; 16], class: usize) -> u16
 }
 
 // How many classes are strictly above a class.
-pub fn above_in(rows: [u16; 16], class: usize) -> usize
+pub(crate) fn above_in(rows: [u16; 16], class: usize) -> usize
     ensures { λ r. ⌜ r ≡ aboveIn rows class ⌝ }
 {
     mask::size(above_set(rows, class))

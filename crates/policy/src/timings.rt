@@ -34,7 +34,7 @@ fn column_within(column: u32, response: u32) -> bool
 }
 
 // 8: every number of the timing is within its bounds.
-pub fn timing_sound(t: Timing) -> bool
+pub(crate) fn timing_sound(t: Timing) -> bool
     ensures { λ r. ⌜ r ≡ timingSound t ⌝ }
 {
     let gaps = t.gaps;

@@ -6,7 +6,7 @@ ghost use Rattle.policy.specs.Turns.{minimumsSum, turnsSound, minimumsAb
 use super::order;
 
 // What stands at a class in an array of numbers by class. What a number above 15 has is open in document 01: 0 here.
-pub fn number_of(numbers: [u32; 16], class: usize) -> u32
+pub(crate) fn number_of(numbers: [u32; 16], class: usize) -> u32
     ensures { λ r. ⌜ r ≡ getD numbers class 0 ⌝ }
 {
     if class < 16 { numbers[class] } else { 0 }
@@ -25,7 +25,7 @@ fn minimums_sum(minimums: [u32; 16]) -> u64
 }
 
 // 7: the epoch has 1 to 64 turns, and the minimums' sum is at most that.
-pub fn turns_sound(epoch: u32, minimums: [u32; 16]) -> bool
+pub(crate) fn turns_sound(epoch: u32, minimums: [u32; 16]) -> bool
     ensures { λ r. ⌜ r ≡ turnsSound epoch minimums ⌝ }
 {
     (1 <= epoch) & (epoch <= 64) & (minimums_sum(minimums) <= epoch as u64)
@@ -47,10 +47,16 @@ fn minimums_above(rows: [u16; 16], minimums: [u32; 16], class: usize) -> u64
 }
 
 // A class's cap: the epoch's length less the minimums of all classes strictly above it, and 0 where they are more. What a number that is no class has is open in document 01: 0 here.
-pub fn cap_in(classes: usize, rows: [u16; 16], epoch: u32, minimums: [u32; 16], class: usize) -> u32
+pub(crate) fn cap_in(
+    classes: usize,
+    rows: [u16; 16],
+    epoch: u32,
+    minimums: [u32; 16],
+    class: usize,
+) -> u32
     ensures { λ r. ⌜ r ≡ capIn classes rows epoch minimums class ⌝ }
 {
-    if classes <= class {
+    if !order::is_class(classes, class) {
         return 0;
     }
     let taken = minimums_above(rows, minimums, class);

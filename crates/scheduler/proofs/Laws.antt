@@ -5,20 +5,23 @@ use mathlib.Core.Bool.{true}
 use Rattle.policy.specs.Policy.{inRange}
 use Rattle.policy.specs.declared.Policy.{Policy}
 use Rattle.scheduler.specs.Laws.{SchedulerLaws}
-use Rattle.scheduler.proofs.Reading.{word-back, request-back}
-use Rattle.scheduler.proofs.Waiting as waiting
-use Rattle.scheduler.proofs.Whole.{whole}
-use Rattle.scheduler.proofs.Elision.{ascends, elision}
-use Rattle.scheduler.proofs.Kept.{fresh-in-range, offer-in-range, tick-in-range}
-use Rattle.scheduler.proofs.Steady.{held}
+use Rattle.scheduler.proofs.Word.{word-back, request-back}
+use Rattle.scheduler.proofs.SingleCalls.{tick-called, offer-called, too-large}
+use Rattle.scheduler.proofs.Queue as waiting
+use Rattle.scheduler.proofs.RangeLaws.{ranged}
+use Rattle.scheduler.proofs.TraversalLaws.{ascends}
+use Rattle.scheduler.proofs.LookaheadLaws.{elision}
+use Rattle.scheduler.proofs.CallsKept.{fresh-in-range, offer-in-range, tick-in-range}
+use Rattle.scheduler.proofs.History.{held}
 
 pub scheduler-laws : (p : Policy) → inRange p ≡ true → SchedulerLaws p
 scheduler-laws p given =
     record {
       words = record { word-back = word-back; request-back = request-back };
+      singly = record { tick-called = tick-called; offer-called = offer-called; too-large = too-large };
       queueing =
           λ s e c l.
-          let q = whole p s e .queues-fit in
+          let q = ranged p s e .queues in
           record {
             at-end = waiting.enqueue-end (s .queues) c l (q .slots-long) (q .heads-long) (q .lengths-long);
             from-front = waiting.dequeue-first (s .queues) c l (q .slots-long) (q .heads-long) (q .lengths-long);

@@ -1,44 +1,44 @@
--- Laws that belong to no one function.
+-- Laws that belong to no one function. `X` or `XLaws` has the laws of `specs/X.antt`.
 
 -- of requests and their words: each is the other's
-pub mod Reading
+pub mod Word
 -- of the queues: what an enqueue and a dequeue do to each class's
-pub mod Waiting
--- of the traversal: where a pointer leads, and that there is always enough to ascend by
-pub mod Climbing
--- of every policy in range: what the traversal rests on
-pub mod Ordered
--- of the second step of a tick
-pub mod Drives
--- of every state in range: what each clause says
-pub mod Ranged
--- of the lookahead: what an elided turn says of the next
-pub mod Elision
--- of what is pending: it stays in range as cycles go by
-pub mod Pending
+pub mod Queue
+-- of the traversal: where a pointer leads, one induction over its ascents, and that there is always enough to ascend by
+pub mod TraversalLaws
+-- of the lookahead: its one induction, and what an elided turn says of the next
+pub mod LookaheadLaws
+-- of the gaps, and how a last activate is stored
+pub mod Wire
+-- of a tick's first step and its second
+pub mod Step
+-- of every state in range: what each clause says, part by part, and back
+pub mod RangeLaws
+-- of what is pending, as cycles go by
+pub mod PendingWords
 -- of what a tick does to what is in flight
-pub mod Flying
+pub mod FlightKept
 -- of a turn's start: owner, pointers and turns left stay in range
-pub mod Charged
--- of every state in range: its parts, and back
-pub mod Whole
+pub mod TurnsKept
 -- of every call on a state in range: its answer without the test
-pub mod Answers
+pub mod Call
 -- of every call: it keeps a state in range
-pub mod Kept
+pub mod CallsKept
 -- of turns and cycles
 pub mod Calendar
 -- of every state reached from fresh
-pub mod Steady
+pub mod History
 -- all of them, as `specs/Laws.antt` states them
 pub mod Laws
 -- of the definitions: document 01's worked turns
 pub mod Worked
 -- of trace words told apart
-pub mod Told
+pub mod TraceLaws
+-- of calls made singly: each is the call of one trace number
+pub mod SingleCalls
 -- of what is lent in place
-pub mod Lends
+pub mod InPlace
 -- of lists of calls
-pub mod Listed
+pub mod Calls
 -- of a run's refusals
-pub mod Sides
+pub mod Run

@@ -1,12 +1,13 @@
 -- The answers of the public calls: "0 or the number below", and the state.
-use mathlib.Core.Bool.{true, false, cond}
-use Prim.Native.Nat.{ℕ, _+_}
+use mathlib.Core.Bool.{true, false}
+use Prim.Native.Nat.{_+_}
 use lib.Dec.{ltb}
 use Rattle.policy.specs.declared.Policy.{Policy}
 use Rattle.policy.specs.Policy.{inRange as policyInRange}
+use Rattle.scheduler.specs.Sizes.{lastCycle}
 use Rattle.scheduler.specs.Queue.{offerStatus, queuesAfter}
 use Rattle.scheduler.specs.Wire.{dueAt}
-use Rattle.scheduler.specs.Step.{turnStarts, turnsAt, turnWord, drive, answered}
+use Rattle.scheduler.specs.Step.{turnsAt, Bus, drive, answered}
 use Rattle.scheduler.specs.Range.{freshState, zeroState, inRange}
 use Rattle.scheduler.specs.declared.Request.{Request}
 use Rattle.scheduler.specs.declared.Wires.the-variants.{Nothing}
@@ -41,26 +42,28 @@ offer p s r = elim (inRange p s) [ true ↦ offerOn s r | false ↦ record { sta
 unfoldable pub silent : Record
 silent = record { wires = Nothing; response = 0; turn = 0 }
 
--- "1 + owner, plus 256 if the dead time is dropped", where a turn starts
-unfoldable pub turnShown : Policy → ℕ → Turns → ℕ
-turnShown p t turns = cond (turnStarts p t) (turnWord (turns .owner) (turns .elided)) 0
+-- the command bus, once the turns are those of the tick
+abbrev pub busAt : Policy → State → Turns → Bus
+busAt p s turns =
+    record { timing = p .timing; cycle = s .cycle; owner = turns .owner; elided = turns .elided; queues = s .queues; flight = s .flight }
 
 unfoldable pub afterTick : Policy → State → Ticked
 afterTick p s =
     let t = s .cycle in
-    let turns = turnsAt p t (s .queues .lengths) (s .turns) in
-    let driven = drive (p .timing) t (turns .owner) (turns .elided) (s .queues) (s .flight) in
+    let start = turnsAt p t (s .queues .lengths) (s .turns) in
+    let turns = start .turns in
+    let driven = drive (busAt p s turns) in
     record {
       status = 0;
       state =
           record { cycle = t + 1; classes = s .classes; queues = driven .queues; turns = turns; flight = answered t (driven .flight) };
       shown =
-          record { wires = driven .wires; response = dueAt (driven .flight .responses) t; turn = turnShown p t turns };
+          record { wires = driven .wires; response = dueAt (driven .flight .responses) t; turn = start .shown };
     }
 
 -- a tick on a state in range: 12 is "a tick after 16,777,215 ticks"
 unfoldable pub tickOn : Policy → State → Ticked
-tickOn p s = elim (ltb (s .cycle) 16777215) [ true ↦ afterTick p s | false ↦ record { status = 12; state = s; shown = silent } ]
+tickOn p s = elim (ltb (s .cycle) lastCycle) [ true ↦ afterTick p s | false ↦ record { status = 12; state = s; shown = silent } ]
 
 unfoldable pub tick : Policy → State → Ticked
 tick p s = elim (inRange p s) [ true ↦ tickOn p s | false ↦ record { status = 13; state = s; shown = silent } ]

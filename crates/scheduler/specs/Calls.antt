@@ -5,6 +5,8 @@ use Rattle.policy.specs.declared.Policy.{Policy}
 use Rattle.scheduler.specs.Word.{commandNumber}
 use Rattle.scheduler.specs.Call.{offer, tick}
 use Rattle.scheduler.specs.declared.State.{State}
+use Rattle.scheduler.specs.declared.Offered.{Offered}
+use Rattle.scheduler.specs.declared.Ticked.{Ticked}
 use Rattle.scheduler.specs.Trace.{callOf}
 use Rattle.scheduler.specs.declared.trace.Call.{Call}
 use Rattle.scheduler.specs.declared.trace.Call.the-variants.{Tick, Offer, Malformed}
@@ -17,17 +19,17 @@ pub record Answer : Type 0 where
   pub response : ℕ
   pub turn : ℕ
 
--- "Each trace number gives four log numbers: status .., command, answer, turn; after an offer or a refusal the last three are 0." 14 changes nothing.
+-- "Each trace number gives four log numbers: status .., command, answer, turn; after an offer or a refusal the last three are 0."
+abbrev pub ticked : Ticked → Answer
+ticked t = record { state = t .state; status = t .status; command = commandNumber (t .shown .wires); response = t .shown .response; turn = t .shown .turn }
+
+abbrev pub offered : Offered → Answer
+offered o = record { state = o .state; status = o .status; command = 0; response = 0; turn = 0 }
+
+-- 14 changes nothing
 unfoldable pub answer : Policy → State → Call → Answer
-answer p s Tick =
-    record {
-      state = tick p s .state;
-      status = tick p s .status;
-      command = commandNumber (tick p s .shown .wires);
-      response = tick p s .shown .response;
-      turn = tick p s .shown .turn;
-    }
-answer p s (Offer r) = record { state = offer p s r .state; status = offer p s r .status; command = 0; response = 0; turn = 0 }
+answer p s Tick = ticked (tick p s)
+answer p s (Offer r) = offered (offer p s r)
 answer p s Malformed = record { state = s; status = 14; command = 0; response = 0; turn = 0 }
 
 unfoldable pub answerTo : Policy → State → ℕ → Answer

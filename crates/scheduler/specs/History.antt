@@ -7,6 +7,7 @@ use Prim.Native.Nat.{ℕ, _+_, _-_, _%_, _≤_, _<_}
 use lib.ListN.{getD}
 use Rattle.policy.specs.Policy.{flows}
 use Rattle.policy.specs.declared.Policy.{Policy}
+use Rattle.scheduler.specs.Sizes.{bankCount, pendingPlaces}
 use Rattle.scheduler.specs.Word.{classOf}
 use Rattle.scheduler.specs.Lookahead.{elides}
 use Rattle.scheduler.specs.Wire.{dueAt, gapMet}
@@ -37,7 +38,7 @@ untilTurn p t = cond (turnStarts p t) 0 (p .timing .turn - t % p .timing .turn)
 
 -- so it is with each pending word, due d cycles after the next tick
 abbrev pub Each : (ℕ → ℕ → Type 0) → ℕ → List ℕ → Type 0
-Each P t pending = (d : ℕ) → d < 32 → (dueAt pending (t + d) ≡ 0) ⊎ P d (dueAt pending (t + d))
+Each P t pending = (d : ℕ) → d < pendingPlaces → (dueAt pending (t + d) ≡ 0) ⊎ P d (dueAt pending (t + d))
 
 -- with each column command and each response
 pub record InFlight (P : ℕ → ℕ → Type 0) (t : ℕ) (f : Flight) : Type 0 where
@@ -47,7 +48,7 @@ pub record InFlight (P : ℕ → ℕ → Type 0) (t : ℕ) (f : Flight) : Type 0
 -- and so it is with the last activate of all, and with that of each bank
 pub record Activates (P : ℕ → Type 0) (f : Flight) : Type 0 where
   pub of-all : P (f .last)
-  pub of-bank : (b : ℕ) → b < 8 → P (getD (f .banks) b 0)
+  pub of-bank : (b : ℕ) → b < bankCount → P (getD (f .banks) b 0)
 
 -- ---- what holds of every state reached from fresh
 

@@ -1,15 +1,27 @@
--- What the functions that work in place are lent: the arrays of a policy, and those of a state with its other numbers.
+-- What the functions that work in place are lent: the arrays of a policy, and those of a state with its other numbers. And what a call in place rests on, and leaves.
 use mathlib.Core.Path.{_≡_}
+use mathlib.Core.Bool.{Bool, true}
 use mathlib.Core.List.{List}
 use Prim.Native.Nat.{ℕ, _+_, _%_}
 use lib.ListN.{set}
 use Rattle.policy.specs.Policy.{least}
+use Rattle.policy.specs.Policy.{inRange as policyInRange}
+use Rattle.policy.specs.declared.Timing.{Timing}
 use Rattle.policy.specs.declared.Policy.{Policy}
+use Rattle.scheduler.specs.Step.{TurnStart, Bus}
+use Rattle.scheduler.specs.Range.{inRange}
+use Rattle.scheduler.specs.Calls.{Answer}
+use Rattle.scheduler.specs.declared.turning.Owned.{Owned}
 use Rattle.scheduler.specs.declared.ticking.Moment.{Moment}
+use Rattle.scheduler.specs.declared.ticking.Ticking.{Ticking}
+use Rattle.scheduler.specs.declared.Queues.{Queues}
+use Rattle.scheduler.specs.declared.Turns.{Turns}
+use Rattle.scheduler.specs.declared.Flight.{Flight}
 use Rattle.scheduler.specs.declared.State.{State}
 
--- what is lent beside a policy is the policy's: its least class, its rows, covers and caps
+-- what is lent beside a policy in range is the policy's: its least class, its rows, covers and caps
 pub record Lent (p : Policy) (bottom : ℕ) (rows covers caps : List ℕ) : Type 0 where
+  pub fit : policyInRange p ≡ true
   pub bottom-is : bottom ≡ least p
   pub rows-are : rows ≡ p .rows
   pub covers-are : covers ≡ p .covers
@@ -28,17 +40,78 @@ momentOf p s =
       last = s .flight .last;
     }
 
--- the state that is worked on, of its numbers and its arrays
+-- the offset in the turn is that of the cycle
+abbrev pub InStep : Policy → Moment → Type 0
+InStep p m = m .offset ≡ m .cycle % p .timing .turn
+
+-- the numbers a cycle later, with another last activate
+abbrev pub nextMoment : Timing → Moment → ℕ → Moment
+nextMoment timing m last =
+    record {
+      cycle = m .cycle + 1;
+      offset = (m .cycle + 1) % timing .turn;
+      bottom = m .bottom;
+      classes = m .classes;
+      owner = m .owner;
+      elided = m .elided;
+      last = last;
+    }
+
+-- ---- the parts of a state, of the numbers and arrays that are worked on
+
+abbrev pub queuesOf : List ℕ → List ℕ → List ℕ → Queues
+queuesOf slots heads lengths = record { slots = slots; heads = heads; lengths = lengths }
+
+abbrev pub turnsOf : ℕ → Bool → List ℕ → List ℕ → Turns
+turnsOf owner elided left pointers = record { owner = owner; elided = elided; left = left; pointers = pointers }
+
+abbrev pub flightOf : List ℕ → List ℕ → List ℕ → ℕ → Flight
+flightOf columns responses banks last = record { columns = columns; responses = responses; banks = banks; last = last }
+
+-- and the state
 abbrev pub stateOf : Moment → List ℕ → List ℕ → List ℕ → List ℕ → List ℕ → List ℕ → List ℕ → List ℕ → State
 stateOf m slots heads lengths left pointers columns responses banks =
     record {
       cycle = m .cycle;
       classes = m .classes;
-      queues = record { slots = slots; heads = heads; lengths = lengths };
-      turns = record { owner = m .owner; elided = m .elided; left = left; pointers = pointers };
-      flight = record { columns = columns; responses = responses; banks = banks; last = m .last };
+      queues = queuesOf slots heads lengths;
+      turns = turnsOf (m .owner) (m .elided) left pointers;
+      flight = flightOf columns responses banks (m .last);
     }
 
--- the four log numbers of a call, written from a place on
-abbrev pub written : List ℕ → ℕ → ℕ → ℕ → ℕ → ℕ → List ℕ
-written log at status command response turn = set (set (set (set log at status) (at + 1) command) (at + 2) response) (at + 3) turn
+-- the command bus, of the numbers and arrays that are worked on
+abbrev pub busOf : Timing → Moment → Queues → Flight → Bus
+busOf timing m queues flight =
+    record { timing = timing; cycle = m .cycle; owner = m .owner; elided = m .elided; queues = queues; flight = flight }
+
+-- what a tick's first step left, of its numbers and arrays
+abbrev pub startOf : Owned → List ℕ → List ℕ → TurnStart
+startOf o left pointers = record { turns = turnsOf (o .owner) (o .elided) left pointers; shown = o .shown }
+
+-- what a tick in place left, of its numbers and the state, as an answer
+abbrev pub answerOf : Ticking → State → Answer
+answerOf r s = record { state = s; status = 0; command = r .command; response = r .response; turn = r .turn }
+
+-- ---- what a call in place rests on, and what stays from one to the next
+
+-- policy and state are in range, the offset is in step, and what is lent is the policy's
+pub record Working (p : Policy) (s : State) (m : Moment) (rows covers caps : List ℕ) : Type 0 where
+  pub ranges : inRange p s ≡ true
+  pub in-step : InStep p m
+  pub lent : Lent p (m .bottom) rows covers caps
+
+-- the numbers after a call: the offset is in step again, and the least class and the class count are what they were
+pub record Continues (p : Policy) (m r : Moment) : Type 0 where
+  pub in-step : InStep p r
+  pub same-bottom : r .bottom ≡ m .bottom
+  pub same-count : r .classes ≡ m .classes
+
+-- ---- the log
+
+-- four log numbers, written from a place on
+abbrev pub lineWritten : List ℕ → ℕ → ℕ → ℕ → ℕ → ℕ → List ℕ
+lineWritten log at status command response turn = set (set (set (set log at status) (at + 1) command) (at + 2) response) (at + 3) turn
+
+-- those of a call's answer
+abbrev pub written : List ℕ → ℕ → Answer → List ℕ
+written log at a = lineWritten log at (a .status) (a .command) (a .response) (a .turn)

@@ -1,5 +1,7 @@
 -- The definitions that the contracts of `scheduler` cite, in reading order. Beside each, the part of document 01 that it carries.
 
+-- sizes that are names
+pub mod Sizes
 -- "Trace, log and extract": a request's word, and what 9 and 10 refuse of a request
 pub mod Word
 -- "A tick": the waiting requests of a class
@@ -12,10 +14,10 @@ pub mod Climb
 pub mod Lookahead
 -- "A tick": pending columns and responses, last activates and gaps
 pub mod Wire
--- what the second step rests on
-pub mod Ready
 -- "A tick": a turn's start, and the three steps
 pub mod Step
+-- what the second step rests on
+pub mod Ready
 -- fresh states, and what 13 refuses
 pub mod Range
 -- the answers of the public calls

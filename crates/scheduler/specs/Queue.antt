@@ -1,10 +1,12 @@
--- The waiting requests: a queue of at most 8 for each class, oldest first. A queue is a ring of 8 places: its head's place, its length, and the words from there on.
+-- The waiting requests: a queue for each class, of at most as many as its ring has places, oldest first. A queue is a ring of 8 places: its head's place, its length, and
+-- the words from there on.
 use mathlib.Core.Bool.{true, false, cond}
 use mathlib.Core.List.{List}
 use Prim.Native.Nat.{ℕ, _+_, _-_, _*_, _%_}
 use lib.Dec.{ltb, eqb}
 use lib.ListN.{getD, set}
 use Rattle.policy.specs.Below.{listOf}
+use Rattle.scheduler.specs.Sizes.{ringPlaces}
 use Rattle.scheduler.specs.Word.{classFits, bankAndKindFit, wordOf}
 use Rattle.scheduler.specs.declared.Request.{Request}
 use Rattle.scheduler.specs.declared.Queues.{Queues}
@@ -18,7 +20,7 @@ lengthOf q c = getD (q .lengths) c 0
 
 -- where the class's k-th request from the oldest, which is 0, is stored
 unfoldable pub place : ℕ → ℕ → ℕ → ℕ
-place c head k = 8 * c + (head + k) % 8
+place c head k = ringPlaces * c + (head + k) % ringPlaces
 
 unfoldable pub waitingAt : Queues → ℕ → ℕ → ℕ
 waitingAt q c k = getD (q .slots) (place c (headOf q c) k) 0
@@ -38,13 +40,13 @@ enqueue q c w =
 
 -- the head "leaves the queue"
 unfoldable pub dequeue : Queues → ℕ → Queues
-dequeue q c = record { slots = q .slots; heads = set (q .heads) c ((headOf q c + 1) % 8); lengths = set (q .lengths) c (lengthOf q c - 1) }
+dequeue q c = record { slots = q .slots; heads = set (q .heads) c ((headOf q c + 1) % ringPlaces); lengths = set (q .lengths) c (lengthOf q c - 1) }
 
 -- ---- offers: "offers 13, 9, 10, 11"
 
 -- 9, 10 and 11, in that order, of an offer on queues in range; 0 where none refuses it
 unfoldable pub offerStatus : ℕ → List ℕ → Request → ℕ
-offerStatus n lengths r = cond (classFits n r) (cond (bankAndKindFit r) (cond (ltb (getD lengths (r .class) 0) 8) 0 11) 10) 9
+offerStatus n lengths r = cond (classFits n r) (cond (bankAndKindFit r) (cond (ltb (getD lengths (r .class) 0) ringPlaces) 0 11) 10) 9
 
 -- "An offer that is not turned down goes to the end of its class's queue as it is"; one that is refused changes nothing
 unfoldable pub queuesAfter : ℕ → Queues → Request → Queues

@@ -1,17 +1,18 @@
 -- Fresh states, and what 13 refuses of a state.
 use mathlib.Core.Bool.{Bool, false, _&&_, _||_}
 use mathlib.Core.List.{List}
-use Prim.Native.Nat.{ℕ, _+_, _/_}
+use Prim.Native.Nat.{ℕ, _+_}
 use lib.Dec.{leb, ltb, eqb}
 use lib.ListN.{length, getD, replicate}
 use Rattle.policy.specs.Below.{every}
-use Rattle.policy.specs.Policy.{coverCount, cap}
+use Rattle.policy.specs.Policy.{isClass, coverCount, cap}
 use Rattle.policy.specs.Policy.{inRange as policyInRange}
 use Rattle.policy.specs.declared.Timing.{Timing}
 use Rattle.policy.specs.declared.Policy.{Policy}
+use Rattle.scheduler.specs.Sizes.{lastCycle, ringPlaces, bankCount, pendingPlaces}
 use Rattle.scheduler.specs.Word.{classOf, soundWord}
 use Rattle.scheduler.specs.Queue.{headOf, lengthOf, place}
-use Rattle.scheduler.specs.Wire.{dueAt}
+use Rattle.scheduler.specs.Wire.{dueAt, activateNext}
 use Rattle.scheduler.specs.declared.Queues.{Queues}
 use Rattle.scheduler.specs.declared.Turns.{Turns}
 use Rattle.scheduler.specs.declared.Flight.{Flight}
@@ -26,7 +27,7 @@ unfoldable pub emptyQueues : Queues
 emptyQueues = record { slots = zeros 128; heads = zeros 16; lengths = zeros 16 }
 
 unfoldable pub nothingInFlight : Flight
-nothingInFlight = record { columns = zeros 32; responses = zeros 32; banks = zeros 8; last = 0 }
+nothingInFlight = record { columns = zeros pendingPlaces; responses = zeros pendingPlaces; banks = zeros bankCount; last = 0 }
 
 -- "A fresh state is at cycle 0, with empty queues, nothing in flight, no activate yet, .. marks 0, owner 0 and its dead time kept."
 unfoldable pub stateAtStart : ℕ → List ℕ → State
@@ -57,9 +58,9 @@ shaped s =
     && eqb (length (s .queues .lengths)) 16
     && eqb (length (s .turns .left)) 16
     && eqb (length (s .turns .pointers)) 16
-    && eqb (length (s .flight .columns)) 32
-    && eqb (length (s .flight .responses)) 32
-    && eqb (length (s .flight .banks)) 8
+    && eqb (length (s .flight .columns)) pendingPlaces
+    && eqb (length (s .flight .responses)) pendingPlaces
+    && eqb (length (s .flight .banks)) bankCount
 
 -- "a waiting .. request that 9 or 10 would refuse, or that waits in another class's queue"
 unfoldable pub rightWord : ℕ → ℕ → ℕ → Bool
@@ -67,7 +68,7 @@ rightWord n c w = soundWord n w && eqb (classOf w) c
 
 -- "a queue length above 8", and a head that is none of the ring's places
 unfoldable pub ringInRange : ℕ → List ℕ → ℕ → ℕ → ℕ → Bool
-ringInRange n slots c head len = leb len 8 && ltb head 8 && every 8 (λ k. leb len k || rightWord n c (getD slots (place c head k) 0))
+ringInRange n slots c head len = leb len ringPlaces && ltb head ringPlaces && every ringPlaces (λ k. leb len k || rightWord n c (getD slots (place c head k) 0))
 
 unfoldable pub queueInRange : ℕ → Queues → ℕ → Bool
 queueInRange n q c = ringInRange n (q .slots) c (headOf q c) (lengthOf q c)
@@ -78,24 +79,24 @@ turnsInRange p t c = leb (getD (t .pointers) c 0) (coverCount p c) && leb (getD 
 
 -- "a last activate not before the cycle". A stored 1 is no activate and not none: refused.
 unfoldable pub activateInRange : ℕ → ℕ → Bool
-activateInRange t last = eqb last 0 || leb 2 last && leb (last / 2) t
+activateInRange t last = eqb last 0 || leb 1 (activateNext last) && leb (activateNext last) t
 
 -- what is pending: at d cycles after the next tick "an in-flight request that 9 or 10 would refuse"; "its delay or more after it" there is none.
 -- "due before the next tick" and "two .. due in one cycle" cannot be stored.
 unfoldable pub pendingInRange : ℕ → ℕ → ℕ → List ℕ → Bool
 pendingInRange n t delay pending =
-    every 32 (λ d. eqb (dueAt pending (t + d)) 0 || ltb d delay && soundWord n (dueAt pending (t + d)))
+    every pendingPlaces (λ d. eqb (dueAt pending (t + d)) 0 || ltb d delay && soundWord n (dueAt pending (t + d)))
 
 unfoldable pub flightInRange : ℕ → Timing → ℕ → Flight → Bool
 flightInRange n timing t f =
     activateInRange t (f .last)
-    && every 8 (λ b. activateInRange t (getD (f .banks) b 0))
+    && every bankCount (λ b. activateInRange t (getD (f .banks) b 0))
     && pendingInRange n t (timing .column) (f .columns)
     && pendingInRange n t (timing .response) (f .responses)
 
 -- "a class count other than the policy's; an owner not below n"; "a cycle above 16,777,215"
 unfoldable pub countsInRange : Policy → State → Bool
-countsInRange p s = eqb (s .classes) (p .classes) && ltb (s .turns .owner) (p .classes) && leb (s .cycle) 16777215
+countsInRange p s = eqb (s .classes) (p .classes) && isClass p (s .turns .owner) && leb (s .cycle) lastCycle
 
 unfoldable pub stateInRange : Policy → State → Bool
 stateInRange p s =

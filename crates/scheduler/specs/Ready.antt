@@ -1,18 +1,23 @@
--- What the second step of a tick rests on, and every state in range has: sound timing, a class for the owner, and a sound request at the head of its queue.
+-- What the second step of a tick rests on, and every state in range has: sound timing, a class for the owner, a sound request where one goes, and an offer's word where a
+-- column command is due.
 use mathlib.Core.Path.{_≡_}
 use mathlib.Core.Bool.{true}
 use Prim.Native.Nat.{ℕ, _<_}
 use Rattle.policy.specs.Laws.{TimingLaws}
-use Rattle.policy.specs.declared.Timing.{Timing}
+use Rattle.scheduler.specs.Sizes.{lastCycle, ringPlaces, bankCount}
 use Rattle.scheduler.specs.Word.{kindOf, bankOf, isOffer}
-use Rattle.scheduler.specs.Queue.{headOf, lengthOf, waitingAt}
-use Rattle.scheduler.specs.declared.Queues.{Queues}
+use Rattle.scheduler.specs.Queue.{headOf, lengthOf}
+use Rattle.scheduler.specs.Step.{Bus, dueColumn, goesAt, going}
 
-pub record Ready (timing : Timing) (t owner : ℕ) (q : Queues) : Type 0 where
-  pub timed : TimingLaws timing
-  pub ticks-left : t < 16777215
-  pub class : owner < 16
-  pub in-ring : headOf q owner < 8
-  pub head-offer : ((lengthOf q owner ≡ 0) → ⊥) → isOffer (waitingAt q owner 0) ≡ true
-  pub head-bank : ((lengthOf q owner ≡ 0) → ⊥) → bankOf (waitingAt q owner 0) < 8
-  pub head-kind : ((lengthOf q owner ≡ 0) → ⊥) → kindOf (waitingAt q owner 0) < 2
+pub record SoundRequest (w : ℕ) : Type 0 where
+  pub offer : isOffer w ≡ true
+  pub bank : bankOf w < bankCount
+  pub kind : kindOf w < 2
+
+pub record Ready (b : Bus) : Type 0 where
+  pub timed : TimingLaws (b .timing)
+  pub ticks-left : b .cycle < lastCycle
+  pub class : b .owner < 16
+  pub in-ring : headOf (b .queues) (b .owner) < ringPlaces
+  pub sound : goesAt b < lengthOf (b .queues) (b .owner) → SoundRequest (going b)
+  pub due-offer : ((dueColumn b ≡ 0) → ⊥) → isOffer (dueColumn b) ≡ true

@@ -5,16 +5,17 @@ use Prim.Native.Nat.{ℕ, _+_, _-_, _*_, _/_, _%_}
 use lib.Dec.{leb, ltb, eqb}
 use lib.ListN.{getD, set}
 use Rattle.policy.specs.declared.Timing.{Timing}
+use Rattle.scheduler.specs.Sizes.{pendingPlaces}
 use Rattle.scheduler.specs.Word.{kindOf, bankOf}
 use Rattle.scheduler.specs.declared.Flight.{Flight}
 
--- the word that is due at a cycle, 0 for none: what is pending is due within 32 cycles, and stands at its due cycle modulo 32
+-- the word that is due at a cycle, 0 for none: what is pending stands at its due cycle modulo the pending places, which are more than any delay
 unfoldable pub dueAt : List ℕ → ℕ → ℕ
-dueAt pending t = getD pending (t % 32) 0
+dueAt pending t = getD pending (t % pendingPlaces) 0
 
 -- what was due at a cycle has gone out
 unfoldable pub sentAt : List ℕ → ℕ → List ℕ
-sentAt pending t = set pending (t % 32) 0
+sentAt pending t = set pending (t % pendingPlaces) 0
 
 -- ---- gaps
 
@@ -22,14 +23,21 @@ sentAt pending t = set pending (t % 32) 0
 unfoldable pub activateAt : ℕ → ℕ → ℕ
 activateAt t kind = 2 * (t + 1) + kind
 
+-- one more than the cycle of a stored last activate, and its kind
+unfoldable pub activateNext : ℕ → ℕ
+activateNext last = last / 2
+
+unfoldable pub activateKind : ℕ → ℕ
+activateKind last = last % 2
+
 -- "A gap of g is met from g cycles after that activate on, and where there was none."
 unfoldable pub gapMet : ℕ → ℕ → ℕ → Bool
-gapMet last gap t = eqb last 0 || leb (last / 2 + gap) (t + 1)
+gapMet last gap t = eqb last 0 || leb (activateNext last + gap) (t + 1)
 
 -- "Gaps run from the last activate of all (by the two kinds)", the earlier first, "and from the last activate of the same bank (by that one's kind)"
 unfoldable pub gapsMetBy : Timing → ℕ → ℕ → ℕ → ℕ → Bool
 gapsMetBy timing last ofBank kind t =
-    gapMet last (getD (timing .gaps) (2 * (last % 2) + kind) 0) t && gapMet ofBank (getD (timing .bank) (ofBank % 2) 0) t
+    gapMet last (getD (timing .gaps) (2 * activateKind last + kind) 0) t && gapMet ofBank (getD (timing .bank) (activateKind ofBank) 0) t
 
 unfoldable pub gapsMet : Timing → Flight → ℕ → ℕ → Bool
 gapsMet timing f w t = gapsMetBy timing (f .last) (getD (f .banks) (bankOf w) 0) (kindOf w) t
@@ -44,8 +52,8 @@ offsetAllows timing elided t = elided || ltb (t % timing .turn) (timing .turn - 
 unfoldable pub activated : Timing → List ℕ → List ℕ → List ℕ → ℕ → ℕ → Flight
 activated timing columns responses banks w t =
     record {
-      columns = set columns ((t + timing .column) % 32) w;
-      responses = set responses ((t + timing .response) % 32) w;
+      columns = set columns ((t + timing .column) % pendingPlaces) w;
+      responses = set responses ((t + timing .response) % pendingPlaces) w;
       banks = set banks (bankOf w) (activateAt t (kindOf w));
       last = activateAt t (kindOf w);
     }

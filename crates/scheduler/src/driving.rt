@@ -1,48 +1,68 @@
 // The command wires: a due column command, or an activate of the head of the owner's queue.
 
 ghost use mathlib.Core.Path.{_≡_};
-ghost use mathlib.Core.Bool.{true};
-ghost use Prim.Native.Nat.{_%_, _<_};
+ghost use Prim.Native.Nat.{_%_, _≤_, _<_};
+ghost use lib.ListN.{getD};
 ghost use Rattle.policy.specs.Laws.{TimingLaws};
-ghost use Rattle.scheduler.specs.Word.{kindOf, bankOf, isOffer, commandNumber};
-ghost use Rattle.scheduler.specs.Wire.{dueAt, sentAt, activateAt, gapMet, offsetAllows, gapsMetBy, activated};
+ghost use Rattle.scheduler.specs.Sizes.{lastCycle, ringPlaces, bankCount};
+ghost use Rattle.scheduler.specs.Word.{kindOf, bankOf, commandNumber};
+ghost use Rattle.scheduler.specs.Queue.{place};
+ghost use Rattle.scheduler.specs.Wire.{dueAt, sentAt, activateAt, activateNext, activateKind, gapMet, offsetAllows, gapsMetBy, activated};
+ghost use Rattle.scheduler.specs.Step.{Bus, drive};
 ghost use Rattle.scheduler.specs.Ready.{Ready};
-ghost use Rattle.scheduler.specs.Step.{drive};
-use super::Wires;
+ghost use Rattle.scheduler.specs.InPlace.{queuesOf, flightOf, busOf};
+use super::Banks;
+use super::PENDING_PLACES;
+use super::Pending;
+use super::Slots;
 use super::queueing;
+use super::ticking::Moment;
 use super::words;
 use policy::Timing;
 
-// What the wires carried, its number in the log, and the last activate of all after it.
+// What the wires carried, as its number in the log, and the last activate of all after it.
 pub struct Drove {
-    pub wires: Wires,
     pub command: u32,
     pub last: u32,
 }
 
 // How a last activate is stored: twice one more than its cycle, plus its kind.
 fn activate_at(cycle: u32, kind: u32) -> u32
-    requires { ⌜ (cycle < 16777215) × (kind < 2) ⌝ }
+    requires { ⌜ (cycle < lastCycle) × (kind < 2) ⌝ }
     ensures { λ r. ⌜ r ≡ activateAt cycle kind ⌝ }
 {
     2 * (cycle + 1) + kind
 }
 
+// One more than the cycle of a stored last activate.
+pub(crate) fn activate_next(last: u32) -> u32
+    ensures { λ r. ⌜ r ≡ activateNext last ⌝ }
+{
+    last / 2
+}
+
+// The kind of a stored last activate.
+fn activate_kind(last: u32) -> u32
+    ensures { λ r. ⌜ r ≡ activateKind last ⌝ }
+{
+    last % 2
+}
+
 // A gap is met from so many cycles after the last activate on, and where there was none.
 fn gap_met(last: u32, gap: u32, cycle: u32) -> bool
-    requires { ⌜ (gap < 1000) × (cycle < 16777215) ⌝ }
+    requires { ⌜ (gap ≤ lastCycle) × (cycle < lastCycle) ⌝ }
     ensures { λ r. ⌜ r ≡ gapMet last gap cycle ⌝ }
 {
-    (last == 0) | (last / 2 + gap <= cycle + 1)
+    (last == 0) | (activate_next(last) + gap <= cycle + 1)
 }
 
 // All gaps are met: from the last activate of all, by the two kinds, and from that of the bank, by its kind.
 fn gaps_met(timing: Timing, last: u32, of_bank: u32, kind: u32, cycle: u32) -> bool
-    requires { ⌜ TimingLaws timing × (kind < 2) × (cycle < 16777215) ⌝ }
+    requires { ⌜ TimingLaws timing × (kind < 2) × (cycle < lastCycle) ⌝ }
     ensures { λ r. ⌜ r ≡ gapsMetBy timing last «of_bank» kind cycle ⌝ }
 {
-    let after = (2 * (last % 2) + kind) as usize;
-    let same = (of_bank % 2) as usize;
+    let after = (2 * activate_kind(last) + kind) as usize;
+    let same = activate_kind(of_bank) as usize;
     gap_met(last, timing.gaps[after], cycle) & gap_met(of_bank, timing.bank[same], cycle)
 }
 
@@ -59,91 +79,86 @@ fn activate(
     timing: Timing,
     cycle: u32,
     word: u32,
-    columns: &mut [u32; 32],
-    responses: &mut [u32; 32],
-    banks: &mut [u32; 8],
+    columns: &mut Pending,
+    responses: &mut Pending,
+    banks: &mut Banks,
 ) -> u32
-    requires { ⌜ TimingLaws timing × (cycle < 16777215) × (bankOf word < 8) × (kindOf word < 2) ⌝ }
-    ensures { λ r. ⌜ record { columns = now (columns .exit); responses = now (responses .exit); banks = now (banks .exit); last = r } ≡ activated timing (now (columns .entry)) (now (responses .entry)) (now (banks .entry)) word cycle ⌝ }
+    requires { ⌜ TimingLaws timing × (cycle < lastCycle) × (bankOf word < bankCount) × (kindOf word < 2) ⌝ }
+    ensures { λ r. ⌜ flightOf (now (columns .exit)) (now (responses .exit)) (now (banks .exit)) r
+        ≡ activated timing (now (columns .entry)) (now (responses .entry)) (now (banks .entry)) word cycle ⌝ }
 {
-    let column = ((cycle + timing.column) % 32) as usize;
-    let response = ((cycle + timing.response) % 32) as usize;
-    let bank = (word / 65536 % 16) as usize;
-    let last = activate_at(cycle, word / 1048576 % 4);
+    let column = ((cycle + timing.column) % PENDING_PLACES) as usize;
+    let response = ((cycle + timing.response) % PENDING_PLACES) as usize;
+    let bank = words::bank_of(word) as usize;
+    let last = activate_at(cycle, words::kind_of(word));
     columns[column] = word;
     responses[response] = word;
     banks[bank] = last;
     last
 }
 
+// The word at the head of a class's queue.
+fn head_of(slots: &Slots, heads: &[usize; 16], class: usize) -> u32
+    requires { ⌜ (class < 16) × (getD (now heads) class 0 < ringPlaces) ⌝ }
+    ensures { λ r. ⌜ r ≡ getD (now (slots .entry)) (place class (getD (now (heads .entry)) class 0) 0) 0 ⌝ }
+{
+    let place = queueing::place(class, heads[class], 0);
+    slots[place]
+}
+
 // The second step of a tick, in place. It goes no further than it must: a due column command, the offset, an empty queue, the gaps.
 pub(crate) fn drive(
     timing: Timing,
-    cycle: u32,
-    offset: u32,
-    owner: usize,
-    elided: bool,
-    slots: &[u32; 128],
+    m: Moment,
+    slots: &Slots,
     heads: &mut [usize; 16],
     lengths: &mut [usize; 16],
-    columns: &mut [u32; 32],
-    responses: &mut [u32; 32],
-    banks: &mut [u32; 8],
-    last: u32,
+    columns: &mut Pending,
+    responses: &mut Pending,
+    banks: &mut Banks,
 ) -> Drove
-    requires { ⌜ Ready timing cycle owner (record { slots = now slots; heads = now heads; lengths = now lengths }) × (offset ≡ cycle % timing .turn) × (((dueAt (now columns) cycle ≡ 0) → ⊥) → isOffer (dueAt (now columns) cycle) ≡ true) ⌝ }
-    ensures { λ r. ⌜ (record { wires = r .wires; queues = record { slots = now (slots .entry); heads = now (heads .exit); lengths = now (lengths .exit) }; flight = record { columns = now (columns .exit); responses = now (responses .exit); banks = now (banks .exit); last = r .last } } ≡ drive timing cycle owner elided (record { slots = now (slots .entry); heads = now (heads .entry); lengths = now (lengths .entry) }) (record { columns = now (columns .entry); responses = now (responses .entry); banks = now (banks .entry); last = last })) × (r .command ≡ commandNumber (r .wires)) ⌝ }
+    ghost { Bus }
+    requires { λ b. ⌜ busOf timing m (queuesOf (now slots) (now heads) (now lengths))
+        (flightOf (now columns) (now responses) (now banks) (m .last)) ≡ b ⌝ }
+    requires { λ b. ⌜ Ready b × (m .offset ≡ m .cycle % timing .turn) ⌝ }
+    ensures command { λ b r. ⌜ r .command ≡ commandNumber (drive b .wires) ⌝ }
+    ensures queues { λ b r. ⌜ queuesOf (now (slots .entry)) (now (heads .exit)) (now (lengths .exit)) ≡ drive b .queues ⌝ }
+    ensures flight { λ b r. ⌜ flightOf (now (columns .exit)) (now (responses .exit)) (now (banks .exit)) (r .last) ≡ drive b .flight ⌝ }
 {
-    let at = (cycle % 32) as usize;
+    let at = (m.cycle % PENDING_PLACES) as usize;
     let due = columns[at];
+    let last = m.last;
     if due != 0 {
         columns[at] = 0;
-        let wires = Wires::Column(words::request_of(due));
-        return Drove {
-            wires,
-            command: due + 1073741824,
-            last,
-        };
+        let command = words::column_number(due);
+        return Drove { command, last };
     }
-    if !offset_allows(timing, elided, cycle, offset) {
-        return Drove {
-            wires: Wires::Nothing,
-            command: 0,
-            last,
-        };
+    if !offset_allows(timing, m.elided, m.cycle, m.offset) {
+        return Drove { command: 0, last };
     }
+    let owner = m.owner;
     if lengths[owner] == 0 {
-        return Drove {
-            wires: Wires::Nothing,
-            command: 0,
-            last,
-        };
+        return Drove { command: 0, last };
     }
-    let place = queueing::place(owner, heads[owner], 0);
-    let word = slots[place];
-    let bank = (word / 65536 % 16) as usize;
-    if !gaps_met(timing, last, banks[bank], word / 1048576 % 4, cycle) {
-        return Drove {
-            wires: Wires::Nothing,
-            command: 0,
-            last,
-        };
+    let word = head_of(slots, heads, owner);
+    let bank = words::bank_of(word) as usize;
+    if !gaps_met(timing, last, banks[bank], words::kind_of(word), m.cycle) {
+        return Drove { command: 0, last };
     }
     queueing::dequeue(heads, lengths, owner);
-    let newest = activate(timing, cycle, word, columns, responses, banks);
-    let wires = Wires::Activate(words::request_of(word));
+    let newest = activate(timing, m.cycle, word, columns, responses, banks);
     Drove {
-        wires,
         command: word,
         last: newest,
     }
 }
 
 // The third step of a tick, in place: the word of the response that is due, 0 for none.
-pub(crate) fn answer(cycle: u32, responses: &mut [u32; 32]) -> u32
-    ensures { λ r. ⌜ (r ≡ dueAt (now (responses .entry)) cycle) × (now (responses .exit) ≡ sentAt (now (responses .entry)) cycle) ⌝ }
+pub(crate) fn answer(cycle: u32, responses: &mut Pending) -> u32
+    ensures word { λ r. ⌜ r ≡ dueAt (now (responses .entry)) cycle ⌝ }
+    ensures sent { λ r. ⌜ now (responses .exit) ≡ sentAt (now (responses .entry)) cycle ⌝ }
 {
-    let at = (cycle % 32) as usize;
+    let at = (cycle % PENDING_PLACES) as usize;
     let due = responses[at];
     responses[at] = 0;
     due

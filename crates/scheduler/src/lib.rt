@@ -2,9 +2,9 @@
 
 ghost use mathlib.Core.Path.{_≡_};
 ghost use Rattle.scheduler.specs.Range.{emptyQueues, nothingInFlight, stateAtStart, countsInRange, flightInRange, stateInRange, inRange};
-ghost use Prim.Native.Nat.{_<_};
-ghost use mathlib.Core.Bool.{true};
-ghost use Rattle.scheduler.specs.Call.{fresh, offer, silent, afterTick, tick};
+ghost use Prim.Native.Nat.{_≤_};
+ghost use Rattle.scheduler.specs.Sizes.{lastCycle};
+ghost use Rattle.scheduler.specs.Call.{fresh, offer, silent, tick};
 use policy::Policy;
 use policy::Timing;
 
@@ -18,14 +18,30 @@ mod traversal;
 mod turning;
 pub mod words;
 
+// The last cycle: a tick there is refused with 12.
+pub(crate) const LAST_CYCLE: u32 = 16777215;
+
+// The places of a class's ring, the pending places, and the banks; and the arrays that have so many: a ring for each of the sixteen classes, a word for each pending
+// place, and a last activate for each bank.
+pub(crate) const RING_PLACES: usize = 8;
+
+pub(crate) const PENDING_PLACES: u32 = 32;
+
+pub(crate) const BANK_COUNT: usize = 8;
+
+pub type Slots = [u32; 128];
+
+pub type Pending = [u32; 32];
+
+pub type Banks = [u32; 8];
+
 // A request, as an offer makes it.
 pub struct Request {
     pub class: u32,
     // 0 is a read, 1 a write.
     pub kind: u32,
     pub bank: u32,
-    // 16 bits. Of a greater number, which document 01 leaves open, the low 16 bits are taken.
-    pub tag: u32,
+    pub tag: u16,
 }
 
 // What the command wires carried in a tick.
@@ -47,7 +63,7 @@ pub struct Record {
 
 // The waiting requests, by their words: a ring of eight places for each class, at eight times the class.
 pub struct Queues {
-    pub slots: [u32; 128],
+    pub slots: Slots,
     // The place of each class's oldest request in its ring.
     pub heads: [usize; 16],
     // How many requests of each class wait.
@@ -68,10 +84,10 @@ pub struct Turns {
 // What is on its way, and when the last activates were.
 pub struct Flight {
     // The words of the pending column commands and responses, each at its due cycle modulo 32; 0 for none.
-    pub columns: [u32; 32],
-    pub responses: [u32; 32],
+    pub columns: Pending,
+    pub responses: Pending,
     // The last activate of each bank, and of all: twice one more than its cycle, plus its kind; 0 where there was none.
-    pub banks: [u32; 8],
+    pub banks: Banks,
     pub last: u32,
 }
 
@@ -109,11 +125,13 @@ fn counts_in_range(p: Policy, s: State) -> bool
     ensures { λ r. ⌜ r ≡ countsInRange p s ⌝ }
 {
     let turns = s.turns;
-    (s.classes == p.classes) & (turns.owner < p.classes) & (s.cycle <= 16777215)
+    (s.classes == p.classes)
+        & policy::order::is_class(p.classes, turns.owner)
+        & (s.cycle <= LAST_CYCLE)
 }
 
 fn flight_in_range(classes: usize, timing: Timing, cycle: u32, flight: Flight) -> bool
-    requires { ⌜ cycle < 16777216 ⌝ }
+    requires { ⌜ cycle ≤ lastCycle ⌝ }
     ensures { λ r. ⌜ r ≡ flightInRange classes timing cycle flight ⌝ }
 {
     let columns = flight.columns;
@@ -210,37 +228,21 @@ pub fn fresh(p: Policy) -> Made
     Made { status: 0, state }
 }
 
-// An offer: 13, 9, 10, 11 in that order. Taken, it goes to the end of its class's queue as it is, and nothing else changes.
+// An offer: 13, 9, 10, 11 in that order. Taken, it goes to the end of its class's queue as it is, and nothing else changes. It is a run over its one trace number.
 pub fn offer(p: Policy, s: State, r: Request) -> Offered
     ensures { λ o. ⌜ o ≡ offer p s r ⌝ }
 {
-    if !in_range(p, s) {
-        return Offered {
-            status: 13,
-            state: s,
-        };
+    let trace = [words::word_of(r)];
+    let mut log = [0u32; 4];
+    let ran = trace::run(p, s, &trace, &mut log);
+    let state = ran.state;
+    if ran.status != 0 {
+        return Offered { status: 13, state };
     }
-    let before = s.queues;
-    let mut slots = before.slots;
-    let heads = before.heads;
-    let mut lengths = before.lengths;
-    let word = words::word_of(r);
-    let status = queueing::offer(s.classes, &mut slots, &heads, &mut lengths, r, word);
-    let queues = Queues {
-        slots,
-        heads,
-        lengths,
-    };
-    let turns = s.turns;
-    let flight = s.flight;
-    let state = State {
-        cycle: s.cycle,
-        classes: s.classes,
-        queues,
-        turns,
-        flight,
-    };
-    Offered { status, state }
+    Offered {
+        status: log[0],
+        state,
+    }
 }
 
 // What a refused tick shows: nothing.
@@ -254,80 +256,31 @@ fn silent() -> Record
     }
 }
 
-// The three steps of a tick, on a state in range with a tick left.
-fn step(s: State, p: Policy) -> Ticked
-    requires { ⌜ (inRange p s ≡ true) × (s .cycle < 16777215) ⌝ }
-    ensures { λ r. ⌜ r ≡ afterTick p s ⌝ }
-{
-    let m = ticking::moment_of(p, s);
-    let rows = p.rows;
-    let covers = p.covers;
-    let caps = p.caps;
-    let queues = s.queues;
-    let slots = queues.slots;
-    let mut heads = queues.heads;
-    let mut lengths = queues.lengths;
-    let turns = s.turns;
-    let mut left = turns.left;
-    let mut pointers = turns.pointers;
-    let flight = s.flight;
-    let mut columns = flight.columns;
-    let mut responses = flight.responses;
-    let mut banks = flight.banks;
-    let after = ticking::tick_in_place(
-        p,
-        m,
-        &rows,
-        &covers,
-        &caps,
-        &slots,
-        &mut heads,
-        &mut lengths,
-        &mut left,
-        &mut pointers,
-        &mut columns,
-        &mut responses,
-        &mut banks,
-    );
-    let moment = after.moment;
-    let shown = after.shown;
-    let state = ticking::state_of(
-        moment,
-        slots,
-        heads,
-        lengths,
-        left,
-        pointers,
-        columns,
-        responses,
-        banks,
-    );
-    Ticked {
-        status: 0,
-        state,
-        shown,
-    }
-}
-
-// A tick: 13, 12; else the three steps of document 01's "A tick".
+// A tick: 13, 12; else the three steps of document 01's "A tick". It is a run over the trace number 0.
 pub fn tick(p: Policy, s: State) -> Ticked
     ensures { λ r. ⌜ r ≡ tick p s ⌝ }
 {
-    if !in_range(p, s) {
+    let trace = [0u32; 1];
+    let mut log = [0u32; 4];
+    let ran = trace::run(p, s, &trace, &mut log);
+    let state = ran.state;
+    if ran.status != 0 {
         let shown = silent();
         return Ticked {
             status: 13,
-            state: s,
+            state,
             shown,
         };
     }
-    if 16777215 <= s.cycle {
-        let shown = silent();
-        return Ticked {
-            status: 12,
-            state: s,
-            shown,
-        };
+    let wires = words::wires_of(log[1]);
+    let shown = Record {
+        wires,
+        response: log[2],
+        turn: log[3],
+    };
+    Ticked {
+        status: log[0],
+        state,
+        shown,
     }
-    step(s, p)
 }

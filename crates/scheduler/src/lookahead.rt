@@ -2,7 +2,7 @@
 
 ghost use mathlib.Core.Path.{_≡_};
 ghost use Prim.Native.Nat.{_<_};
-ghost use Rattle.scheduler.specs.Lookahead.{reaches};
+ghost use Rattle.scheduler.specs.Lookahead.{lookingAhead, reaches};
 ghost use Rattle.scheduler.specs.Climb.{Climbs};
 use super::traversal;
 
@@ -16,7 +16,8 @@ pub(crate) fn reaches(
     from: usize,
 ) -> bool
     requires { ⌜ Climbs (now rows) (now covers) × (from < 16) ⌝ }
-    ensures { λ r. ⌜ r ≡ reaches 16 (now (rows .entry)) (now (covers .entry)) (now (left .entry)) (now (pointers .entry)) owner from ⌝ }
+    ensures { λ r. ⌜ r
+        ≡ reaches 16 (lookingAhead (now (rows .entry)) (now (covers .entry)) (now (left .entry)) (now (pointers .entry))) owner from ⌝ }
 {
     let mut class = from;
     while class != owner {

@@ -2,13 +2,22 @@
 
 ghost use mathlib.Core.Path.{_≡_};
 ghost use mathlib.Core.Bool.{_&&_, _||_};
-ghost use Prim.Native.Nat.{_<_};
+ghost use Prim.Native.Nat.{_≤_, _<_};
 ghost use lib.Dec.{leb};
 ghost use lib.ListN.{getD};
 ghost use Rattle.policy.specs.Below.{every};
 ghost use Rattle.policy.specs.Mask.{size};
+ghost use Rattle.scheduler.specs.Sizes.{lastCycle, ringPlaces, bankCount};
 ghost use Rattle.scheduler.specs.Queue.{place};
+ghost use Rattle.scheduler.specs.InPlace.{queuesOf};
 ghost use Rattle.scheduler.specs.Range.{rightWord, ringInRange, queueInRange, activateInRange, pendingInRange};
+use super::BANK_COUNT;
+use super::Banks;
+use super::PENDING_PLACES;
+use super::Pending;
+use super::RING_PLACES;
+use super::Slots;
+use super::driving;
 use super::queueing;
 use super::words;
 
@@ -16,23 +25,18 @@ use super::words;
 fn right_word(classes: usize, class: usize, word: u32) -> bool
     ensures { λ r. ⌜ r ≡ rightWord classes class word ⌝ }
 {
-    let of = (word / 16777216 % 32) as usize;
+    let of = words::class_of(word) as usize;
     words::sound_word(classes, word) & (of == class)
 }
 
 // Every waiting request of a class is right.
-fn ring_in_range(
-    classes: usize,
-    slots: &[u32; 128],
-    class: usize,
-    head: usize,
-    length: usize,
-) -> bool
-    requires { ⌜ (class < 16) × (head < 8) ⌝ }
-    ensures { λ r. ⌜ r ≡ every 8 (λ k. leb length k || rightWord classes class (getD (now (slots .entry)) (place class head k) 0)) ⌝ }
+fn ring_in_range(classes: usize, slots: &Slots, class: usize, head: usize, length: usize) -> bool
+    requires { ⌜ (class < 16) × (head < ringPlaces) ⌝ }
+    ensures { λ r. ⌜ r
+        ≡ every ringPlaces (λ k. leb length k || rightWord classes class (getD (now (slots .entry)) (place class head k) 0)) ⌝ }
 {
     let mut k = 0;
-    while k < 8 {
+    while k < RING_PLACES {
         let place = queueing::place(class, head, k);
         if !((length <= k) | right_word(classes, class, slots[place])) {
             return false;
@@ -42,20 +46,14 @@ fn ring_in_range(
     true
 }
 
-fn queue_in_range(
-    classes: usize,
-    slots: &[u32; 128],
-    class: usize,
-    head: usize,
-    length: usize,
-) -> bool
+fn queue_in_range(classes: usize, slots: &Slots, class: usize, head: usize, length: usize) -> bool
     requires { ⌜ class < 16 ⌝ }
     ensures { λ r. ⌜ r ≡ ringInRange classes (now (slots .entry)) class head length ⌝ }
 {
-    if 8 < length {
+    if RING_PLACES < length {
         return false;
     }
-    if 8 <= head {
+    if RING_PLACES <= head {
         return false;
     }
     ring_in_range(classes, slots, class, head, length)
@@ -64,11 +62,11 @@ fn queue_in_range(
 // Every class's queue is in range.
 pub(crate) fn queues_in_range(
     classes: usize,
-    slots: &[u32; 128],
+    slots: &Slots,
     heads: &[usize; 16],
     lengths: &[usize; 16],
 ) -> bool
-    ensures { λ r. ⌜ r ≡ every 16 (queueInRange classes (record { slots = now (slots .entry); heads = now (heads .entry); lengths = now (lengths .entry) })) ⌝ }
+    ensures { λ r. ⌜ r ≡ every 16 (queueInRange classes (queuesOf (now (slots .entry)) (now (heads .entry)) (now (lengths .entry)))) ⌝ }
 {
     let mut class = 0;
     while class < 16 {
@@ -87,7 +85,8 @@ pub(crate) fn turns_in_range(
     left: &[u32; 16],
     pointers: &[usize; 16],
 ) -> bool
-    ensures { λ r. ⌜ r ≡ every 16 (λ c. leb (getD (now (pointers .entry)) c 0) (size (getD (now (covers .entry)) c 0)) && leb (getD (now (left .entry)) c 0) (getD (now (caps .entry)) c 0)) ⌝ }
+    ensures { λ r. ⌜ r ≡ every 16 (λ c. leb (getD (now (pointers .entry)) c 0) (size (getD (now (covers .entry)) c 0))
+        && leb (getD (now (left .entry)) c 0) (getD (now (caps .entry)) c 0)) ⌝ }
 {
     let mut class = 0;
     while class < 16 {
@@ -104,14 +103,15 @@ pub(crate) fn turns_in_range(
 pub(crate) fn activate_in_range(cycle: u32, last: u32) -> bool
     ensures { λ r. ⌜ r ≡ activateInRange cycle last ⌝ }
 {
-    (last == 0) | (2 <= last) & (last / 2 <= cycle)
+    let next = driving::activate_next(last);
+    (last == 0) | (1 <= next) & (next <= cycle)
 }
 
-pub(crate) fn banks_in_range(cycle: u32, banks: &[u32; 8]) -> bool
-    ensures { λ r. ⌜ r ≡ every 8 (λ b. activateInRange cycle (getD (now (banks .entry)) b 0)) ⌝ }
+pub(crate) fn banks_in_range(cycle: u32, banks: &Banks) -> bool
+    ensures { λ r. ⌜ r ≡ every bankCount (λ b. activateInRange cycle (getD (now (banks .entry)) b 0)) ⌝ }
 {
     let mut bank = 0;
-    while bank < 8 {
+    while bank < BANK_COUNT {
         if !activate_in_range(cycle, banks[bank]) {
             return false;
         }
@@ -121,13 +121,13 @@ pub(crate) fn banks_in_range(cycle: u32, banks: &[u32; 8]) -> bool
 }
 
 // What is pending is a sound request, due less than its delay after the next tick.
-pub(crate) fn pending_in_range(classes: usize, cycle: u32, delay: u32, pending: &[u32; 32]) -> bool
-    requires { ⌜ cycle < 16777216 ⌝ }
+pub(crate) fn pending_in_range(classes: usize, cycle: u32, delay: u32, pending: &Pending) -> bool
+    requires { ⌜ cycle ≤ lastCycle ⌝ }
     ensures { λ r. ⌜ r ≡ pendingInRange classes cycle delay (now (pending .entry)) ⌝ }
 {
     let mut after = 0;
-    while after < 32 {
-        let at = ((cycle + after) % 32) as usize;
+    while after < PENDING_PLACES {
+        let at = ((cycle + after) % PENDING_PLACES) as usize;
         let word = pending[at];
         if !((word == 0) | (after < delay) & words::sound_word(classes, word)) {
             return false;

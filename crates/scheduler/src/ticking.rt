@@ -1,21 +1,22 @@
 // A tick in place, on the arrays of a state and of its policy. A single tick and a trace's ticks are made by it.
 
 ghost use mathlib.Core.Path.{_≡_};
-ghost use mathlib.Core.Bool.{true};
 ghost use Prim.Native.Nat.{_+_, _%_, _<_};
 ghost use Rattle.policy.specs.Laws.{TimingLaws};
-ghost use Rattle.scheduler.specs.Word.{commandNumber};
-ghost use Rattle.scheduler.specs.Range.{inRange};
+ghost use Rattle.scheduler.specs.Sizes.{lastCycle};
+ghost use Rattle.scheduler.specs.declared.State.{State};
 ghost use Rattle.scheduler.specs.Call.{afterTick};
-ghost use Rattle.scheduler.specs.InPlace.{Lent, momentOf, stateOf};
+ghost use Rattle.scheduler.specs.Calls.{ticked};
+ghost use Rattle.scheduler.specs.InPlace.{momentOf, nextMoment, stateOf, answerOf, Working, Continues};
+use super::Banks;
 use super::Flight;
+use super::Pending;
 use super::Queues;
-use super::Record;
+use super::Slots;
 use super::State;
 use super::Turns;
 use super::driving;
 use super::turning;
-use super::turning::Owned;
 use policy::Policy;
 use policy::Timing;
 
@@ -30,12 +31,12 @@ pub struct Moment {
     pub last: u32,
 }
 
-// What a tick in place left, beside the arrays.
+// What a tick in place left, beside the arrays, and its numbers in the log.
 pub struct Ticking {
     pub moment: Moment,
-    pub shown: Record,
-    // The command's number in the log.
     pub command: u32,
+    pub response: u32,
+    pub turn: u32,
 }
 
 pub(crate) fn moment_of(p: Policy, s: State) -> Moment
@@ -61,14 +62,14 @@ pub(crate) fn moment_of(p: Policy, s: State) -> Moment
 // The state put together again.
 pub(crate) fn state_of(
     m: Moment,
-    slots: [u32; 128],
+    slots: Slots,
     heads: [usize; 16],
     lengths: [usize; 16],
     left: [u32; 16],
     pointers: [usize; 16],
-    columns: [u32; 32],
-    responses: [u32; 32],
-    banks: [u32; 8],
+    columns: Pending,
+    responses: Pending,
+    banks: Banks,
 ) -> State
     ensures { λ r. ⌜ r ≡ stateOf m slots heads lengths left pointers columns responses banks ⌝ }
 {
@@ -109,6 +110,22 @@ fn next_offset(timing: Timing, cycle: u32, offset: u32) -> u32
     }
 }
 
+// The numbers a cycle later.
+fn next_moment(timing: Timing, m: Moment, last: u32) -> Moment
+    requires { ⌜ TimingLaws timing × (m .offset ≡ m .cycle % timing .turn) × (m .cycle < lastCycle) ⌝ }
+    ensures { λ r. ⌜ r ≡ nextMoment timing m last ⌝ }
+{
+    Moment {
+        cycle: m.cycle + 1,
+        offset: next_offset(timing, m.cycle, m.offset),
+        bottom: m.bottom,
+        classes: m.classes,
+        owner: m.owner,
+        elided: m.elided,
+        last,
+    }
+}
+
 // The three steps of a tick, on a state in range with a tick left.
 pub(crate) fn tick_in_place(
     p: Policy,
@@ -116,70 +133,50 @@ pub(crate) fn tick_in_place(
     rows: &[u16; 16],
     covers: &[u16; 16],
     caps: &[u32; 16],
-    slots: &[u32; 128],
+    slots: &Slots,
     heads: &mut [usize; 16],
     lengths: &mut [usize; 16],
     left: &mut [u32; 16],
     pointers: &mut [usize; 16],
-    columns: &mut [u32; 32],
-    responses: &mut [u32; 32],
-    banks: &mut [u32; 8],
+    columns: &mut Pending,
+    responses: &mut Pending,
+    banks: &mut Banks,
 ) -> Ticking
-    requires { ⌜ (inRange p (stateOf m (now slots) (now heads) (now lengths) (now left) (now pointers) (now columns) (now responses) (now banks)) ≡ true) × (m .cycle < 16777215) × (m .offset ≡ m .cycle % p .timing .turn) × Lent p (m .bottom) (now rows) (now covers) (now caps) ⌝ }
-    ensures { λ r. ⌜ (record { status = 0; state = stateOf (r .moment) (now (slots .entry)) (now (heads .exit)) (now (lengths .exit)) (now (left .exit)) (now (pointers .exit)) (now (columns .exit)) (now (responses .exit)) (now (banks .exit)); shown = r .shown } ≡ afterTick p (stateOf m (now (slots .entry)) (now (heads .entry)) (now (lengths .entry)) (now (left .entry)) (now (pointers .entry)) (now (columns .entry)) (now (responses .entry)) (now (banks .entry)))) × (r .moment .offset ≡ r .moment .cycle % p .timing .turn) × (r .moment .bottom ≡ m .bottom) × (r .moment .classes ≡ m .classes) × (r .command ≡ commandNumber (r .shown .wires)) ⌝ }
+    ghost { State }
+    requires { λ s. ⌜ stateOf m (now slots) (now heads) (now lengths) (now left) (now pointers) (now columns) (now responses) (now banks)
+        ≡ s ⌝ }
+    requires { λ s. ⌜ Working p s m (now rows) (now covers) (now caps) × (m .cycle < lastCycle) ⌝ }
+    ensures ticked { λ s r. ⌜ answerOf r (stateOf (r .moment) (now (slots .entry)) (now (heads .exit)) (now (lengths .exit))
+        (now (left .exit)) (now (pointers .exit)) (now (columns .exit)) (now (responses .exit)) (now (banks .exit))) ≡ ticked (afterTick p s) ⌝ }
+    ensures next { λ s r. ⌜ Continues p m (r .moment) ⌝ }
 {
     let timing = p.timing;
-    let before = Owned {
-        owner: m.owner,
-        elided: m.elided,
+    let owned = turning::turns_at(p, m, rows, covers, caps, lengths, left, pointers);
+    let turned = Moment {
+        cycle: m.cycle,
+        offset: m.offset,
+        bottom: m.bottom,
+        classes: m.classes,
+        owner: owned.owner,
+        elided: owned.elided,
+        last: m.last,
     };
-    let owned = turning::turns_at(
-        p,
-        m.bottom,
-        m.cycle,
-        m.offset,
-        rows,
-        covers,
-        caps,
-        lengths,
-        before,
-        left,
-        pointers,
-    );
     let drove = driving::drive(
         timing,
-        m.cycle,
-        m.offset,
-        owned.owner,
-        owned.elided,
+        turned,
         slots,
         heads,
         lengths,
         columns,
         responses,
         banks,
-        m.last,
     );
     let response = driving::answer(m.cycle, responses);
-    let turn = owned.turn;
-    let wires = drove.wires;
-    let shown = Record {
-        wires,
-        response,
-        turn,
-    };
-    let moment = Moment {
-        cycle: m.cycle + 1,
-        offset: next_offset(timing, m.cycle, m.offset),
-        bottom: m.bottom,
-        classes: m.classes,
-        owner: owned.owner,
-        elided: owned.elided,
-        last: drove.last,
-    };
+    let moment = next_moment(timing, turned, drove.last);
     Ticking {
         moment,
-        shown,
         command: drove.command,
+        response,
+        turn: owned.shown,
     }
 }

@@ -3,14 +3,19 @@
 ghost use mathlib.Core.Path.{_≡_};
 ghost use mathlib.Core.Bool.{true};
 ghost use mathlib.Core.List.{_++_};
-ghost use Prim.Native.Nat.{_+_, _*_, _%_, _≤_};
+ghost use Prim.Native.Nat.{_+_, _*_, _≤_};
 ghost use lib.ListN.{length, drop};
 ghost use Rattle.scheduler.specs.Range.{inRange};
 ghost use Rattle.scheduler.specs.Trace.{callOf};
+ghost use Rattle.scheduler.specs.declared.State.{State};
 ghost use Rattle.scheduler.specs.Calls.{answerTo, stateAfter, logOf};
 ghost use Rattle.scheduler.specs.Run.{run, logAfter};
-ghost use Rattle.scheduler.specs.InPlace.{Lent, stateOf, written};
+ghost use Rattle.scheduler.specs.InPlace.{stateOf, Working, Continues, lineWritten, written};
+use super::Banks;
+use super::LAST_CYCLE;
+use super::Pending;
 use super::Request;
+use super::Slots;
 use super::State;
 use super::in_range;
 use super::queueing;
@@ -50,7 +55,7 @@ pub fn call_of(word: u32) -> Call
 // Writes the four log numbers of a call.
 fn write(log: &mut [u32], at: usize, status: u32, command: u32, response: u32, turn: u32)
     requires { ⌜ at + 4 ≤ length (now log) ⌝ }
-    ensures { λ r. ⌜ now (log .exit) ≡ written (now (log .entry)) at status command response turn ⌝ }
+    ensures { λ r. ⌜ now (log .exit) ≡ lineWritten (now (log .entry)) at status command response turn ⌝ }
 {
     log[at] = status;
     log[at + 1] = command;
@@ -66,24 +71,30 @@ fn call_at(
     rows: &[u16; 16],
     covers: &[u16; 16],
     caps: &[u32; 16],
-    slots: &mut [u32; 128],
+    slots: &mut Slots,
     heads: &mut [usize; 16],
     lengths: &mut [usize; 16],
     left: &mut [u32; 16],
     pointers: &mut [usize; 16],
-    columns: &mut [u32; 32],
-    responses: &mut [u32; 32],
-    banks: &mut [u32; 8],
+    columns: &mut Pending,
+    responses: &mut Pending,
+    banks: &mut Banks,
     log: &mut [u32],
     at: usize,
 ) -> Moment
-    requires { ⌜ (inRange p (stateOf m (now slots) (now heads) (now lengths) (now left) (now pointers) (now columns) (now responses) (now banks)) ≡ true) × (m .offset ≡ m .cycle % p .timing .turn) × Lent p (m .bottom) (now rows) (now covers) (now caps) × (at + 4 ≤ length (now log)) ⌝ }
-    ensures { λ r. ⌜ (stateOf r (now (slots .exit)) (now (heads .exit)) (now (lengths .exit)) (now (left .exit)) (now (pointers .exit)) (now (columns .exit)) (now (responses .exit)) (now (banks .exit)) ≡ answerTo p (stateOf m (now (slots .entry)) (now (heads .entry)) (now (lengths .entry)) (now (left .entry)) (now (pointers .entry)) (now (columns .entry)) (now (responses .entry)) (now (banks .entry))) word .state) × (now (log .exit) ≡ written (now (log .entry)) at (answerTo p (stateOf m (now (slots .entry)) (now (heads .entry)) (now (lengths .entry)) (now (left .entry)) (now (pointers .entry)) (now (columns .entry)) (now (responses .entry)) (now (banks .entry))) word .status) (answerTo p (stateOf m (now (slots .entry)) (now (heads .entry)) (now (lengths .entry)) (now (left .entry)) (now (pointers .entry)) (now (columns .entry)) (now (responses .entry)) (now (banks .entry))) word .command) (answerTo p (stateOf m (now (slots .entry)) (now (heads .entry)) (now (lengths .entry)) (now (left .entry)) (now (pointers .entry)) (now (columns .entry)) (now (responses .entry)) (now (banks .entry))) word .response) (answerTo p (stateOf m (now (slots .entry)) (now (heads .entry)) (now (lengths .entry)) (now (left .entry)) (now (pointers .entry)) (now (columns .entry)) (now (responses .entry)) (now (banks .entry))) word .turn)) × (r .offset ≡ r .cycle % p .timing .turn) × (r .bottom ≡ m .bottom) × (r .classes ≡ m .classes) ⌝ }
+    ghost { State }
+    requires { λ s. ⌜ stateOf m (now slots) (now heads) (now lengths) (now left) (now pointers) (now columns) (now responses) (now banks)
+        ≡ s ⌝ }
+    requires { λ s. ⌜ Working p s m (now rows) (now covers) (now caps) × (at + 4 ≤ length (now log)) ⌝ }
+    ensures state { λ s r. ⌜ stateOf r (now (slots .exit)) (now (heads .exit)) (now (lengths .exit)) (now (left .exit))
+        (now (pointers .exit)) (now (columns .exit)) (now (responses .exit)) (now (banks .exit)) ≡ answerTo p s word .state ⌝ }
+    ensures logged { λ s r. ⌜ now (log .exit) ≡ written (now (log .entry)) at (answerTo p s word) ⌝ }
+    ensures next { λ s r. ⌜ Continues p m r ⌝ }
 {
     let call = call_of(word);
     match call {
         Call::Tick => {
-            if 16777215 <= m.cycle {
+            if LAST_CYCLE <= m.cycle {
                 write(log, at, 12, 0, 0, 0);
                 return m;
             }
@@ -102,8 +113,7 @@ fn call_at(
                 responses,
                 banks,
             );
-            let shown = after.shown;
-            write(log, at, 0, after.command, shown.response, shown.turn);
+            write(log, at, 0, after.command, after.response, after.turn);
             after.moment
         }
         Call::Offer(r) => {
@@ -118,27 +128,34 @@ fn call_at(
     }
 }
 
-// The calls of a whole trace, on a state in range: its arrays and numbers are moved into locals once, and put together at the end. (The numbers are locals of their
-// own from call to call: a struct would be copied with the gaps between its fields.)
-fn advance(s: State, p: Policy, trace: &[u32], log: &mut [u32]) -> State
-    requires { ⌜ (inRange p s ≡ true) × (4 * length (now trace) ≤ length (now log)) ⌝ }
-    ensures { λ r. ⌜ (r ≡ stateAfter p s (now (trace .entry))) × (now (log .exit) ≡ logOf p s (now (trace .entry)) ++ drop (4 * length (now (trace .entry))) (now (log .entry))) ⌝ }
+// The calls of a trace one after the other, in place, on a state in range. (The numbers are locals of their own from call to call: a struct would be copied with the gaps
+// between its fields.)
+fn calls(
+    p: Policy,
+    start: Moment,
+    rows: &[u16; 16],
+    covers: &[u16; 16],
+    caps: &[u32; 16],
+    slots: &mut Slots,
+    heads: &mut [usize; 16],
+    lengths: &mut [usize; 16],
+    left: &mut [u32; 16],
+    pointers: &mut [usize; 16],
+    columns: &mut Pending,
+    responses: &mut Pending,
+    banks: &mut Banks,
+    trace: &[u32],
+    log: &mut [u32],
+) -> Moment
+    ghost { State }
+    requires { λ s. ⌜ stateOf start (now slots) (now heads) (now lengths) (now left) (now pointers) (now columns) (now responses) (now banks)
+        ≡ s ⌝ }
+    requires { λ s. ⌜ Working p s start (now rows) (now covers) (now caps) × (4 * length (now trace) ≤ length (now log)) ⌝ }
+    ensures state { λ s r. ⌜ stateOf r (now (slots .exit)) (now (heads .exit)) (now (lengths .exit)) (now (left .exit))
+        (now (pointers .exit)) (now (columns .exit)) (now (responses .exit)) (now (banks .exit)) ≡ stateAfter p s (now (trace .entry)) ⌝ }
+    ensures logged { λ s r. ⌜ now (log .exit)
+        ≡ logOf p s (now (trace .entry)) ++ drop (4 * length (now (trace .entry))) (now (log .entry)) ⌝ }
 {
-    let rows = p.rows;
-    let covers = p.covers;
-    let caps = p.caps;
-    let queues = s.queues;
-    let mut slots = queues.slots;
-    let mut heads = queues.heads;
-    let mut lengths = queues.lengths;
-    let turns = s.turns;
-    let mut left = turns.left;
-    let mut pointers = turns.pointers;
-    let flight = s.flight;
-    let mut columns = flight.columns;
-    let mut responses = flight.responses;
-    let mut banks = flight.banks;
-    let start = ticking::moment_of(p, s);
     let bottom = start.bottom;
     let classes = start.classes;
     let mut cycle = start.cycle;
@@ -161,17 +178,17 @@ fn advance(s: State, p: Policy, trace: &[u32], log: &mut [u32]) -> State
             p,
             m,
             trace[i],
-            &rows,
-            &covers,
-            &caps,
-            &mut slots,
-            &mut heads,
-            &mut lengths,
-            &mut left,
-            &mut pointers,
-            &mut columns,
-            &mut responses,
-            &mut banks,
+            rows,
+            covers,
+            caps,
+            slots,
+            heads,
+            lengths,
+            left,
+            pointers,
+            columns,
+            responses,
+            banks,
             log,
             4 * i,
         );
@@ -182,7 +199,7 @@ fn advance(s: State, p: Policy, trace: &[u32], log: &mut [u32]) -> State
         last = after.last;
         i += 1;
     }
-    let end = Moment {
+    Moment {
         cycle,
         offset,
         bottom,
@@ -190,7 +207,48 @@ fn advance(s: State, p: Policy, trace: &[u32], log: &mut [u32]) -> State
         owner,
         elided,
         last,
-    };
+    }
+}
+
+// The calls of a whole trace, on a state in range: its arrays and numbers are moved into locals once, worked on in place, and put together at the end.
+fn advance(s: State, p: Policy, trace: &[u32], log: &mut [u32]) -> State
+    requires { ⌜ (inRange p s ≡ true) × (4 * length (now trace) ≤ length (now log)) ⌝ }
+    ensures state { λ r. ⌜ r ≡ stateAfter p s (now (trace .entry)) ⌝ }
+    ensures logged { λ r. ⌜ now (log .exit)
+        ≡ logOf p s (now (trace .entry)) ++ drop (4 * length (now (trace .entry))) (now (log .entry)) ⌝ }
+{
+    let rows = p.rows;
+    let covers = p.covers;
+    let caps = p.caps;
+    let queues = s.queues;
+    let mut slots = queues.slots;
+    let mut heads = queues.heads;
+    let mut lengths = queues.lengths;
+    let turns = s.turns;
+    let mut left = turns.left;
+    let mut pointers = turns.pointers;
+    let flight = s.flight;
+    let mut columns = flight.columns;
+    let mut responses = flight.responses;
+    let mut banks = flight.banks;
+    let start = ticking::moment_of(p, s);
+    let end = calls(
+        p,
+        start,
+        &rows,
+        &covers,
+        &caps,
+        &mut slots,
+        &mut heads,
+        &mut lengths,
+        &mut left,
+        &mut pointers,
+        &mut columns,
+        &mut responses,
+        &mut banks,
+        trace,
+        log,
+    );
     ticking::state_of(
         end,
         slots,

@@ -1,11 +1,10 @@
 // The traversal: which class owns a turn. Document 01: the walk.
 
 ghost use mathlib.Core.Path.{_≡_};
-ghost use Prim.Native.Nat.{_≤_, _<_};
+ghost use Prim.Native.Nat.{_<_};
 ghost use lib.ListN.{length, getD};
-ghost use Rattle.policy.specs.Mask.{size, nth};
-ghost use Rattle.scheduler.specs.Traversal.{moved, takesBy, tryClass};
-ghost use Rattle.scheduler.specs.Climb.{Climbs};
+ghost use Rattle.scheduler.specs.Traversal.{moved, namedNow, takesBy, candidates, tryClass};
+ghost use Rattle.scheduler.specs.Climb.{Climbs, Names};
 
 // The round-robin pointer, moved on by 1: from the number of covers back to 1, and 0 where there are none.
 pub(crate) fn moved(covers: u16, pointer: usize) -> usize
@@ -38,7 +37,8 @@ pub(crate) fn try_class(
     class: usize,
 ) -> usize
     requires { ⌜ Climbs (now rows) (now covers) × (class < 16) × (length (now pointers) ≡ 16) ⌝ }
-    ensures { λ r. ⌜ record { owner = r; pointers = now (pointers .exit) } ≡ tryClass 16 (now (covers .entry)) (now (lengths .entry)) (now (left .entry)) (now (pointers .entry)) class ⌝ }
+    ensures { λ r. ⌜ record { owner = r; pointers = now (pointers .exit) }
+        ≡ tryClass 16 (candidates (now (covers .entry)) (now (lengths .entry)) (now (left .entry))) (now (pointers .entry)) class ⌝ }
 {
     pointers[class] = moved(covers[class], pointers[class]);
     if takes(covers[class], lengths[class], left[class]) {
@@ -56,8 +56,11 @@ fn ascend(
     pointers: &mut [usize; 16],
     class: usize,
 ) -> usize
-    requires { ⌜ Climbs (now rows) (now covers) × (class < 16) × (length (now pointers) ≡ 16) × (1 ≤ getD (now pointers) class 0) × (getD (now pointers) class 0 ≤ size (getD (now covers) class 0)) ⌝ }
-    ensures { λ r. ⌜ record { owner = r; pointers = now (pointers .exit) } ≡ tryClass 16 (now (covers .entry)) (now (lengths .entry)) (now (left .entry)) (now (pointers .entry)) (nth (getD (now (covers .entry)) class 0) (getD (now (pointers .entry)) class 0)) ⌝ }
+    requires { ⌜ Climbs (now rows) (now covers) × (class < 16) × (length (now pointers) ≡ 16)
+        × Names (getD (now covers) class 0) (getD (now pointers) class 0) ⌝ }
+    ensures { λ r. ⌜ record { owner = r; pointers = now (pointers .exit) }
+        ≡ tryClass 16 (candidates (now (covers .entry)) (now (lengths .entry)) (now (left .entry))) (now (pointers .entry))
+        (namedNow (now (covers .entry)) (now (pointers .entry)) class) ⌝ }
 {
     let next = policy::mask::nth(covers[class], pointers[class]);
     try_class(rows, covers, lengths, left, pointers, next)

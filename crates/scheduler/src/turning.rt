@@ -3,29 +3,33 @@
 
 ghost use mathlib.Core.Path.{_≡_};
 ghost use mathlib.Core.Bool.{true};
-ghost use Prim.Native.Nat.{_-_, _%_, _<_};
+ghost use Prim.Native.Nat.{_-_, _<_};
 ghost use lib.ListN.{length};
-ghost use Rattle.policy.specs.Policy.{inRange};
-ghost use Rattle.scheduler.specs.Traversal.{charge};
+ghost use Rattle.policy.specs.Policy.{least, inRange};
+ghost use Rattle.scheduler.specs.Sizes.{lastCycle};
+ghost use Rattle.scheduler.specs.Traversal.{firstClass, charge};
 ghost use Rattle.scheduler.specs.Lookahead.{elides};
-ghost use Rattle.scheduler.specs.Step.{leftAtStart, startTurn, turnsAt, turnWord};
-ghost use Rattle.scheduler.specs.Call.{turnShown};
-ghost use Rattle.scheduler.specs.InPlace.{Lent};
+ghost use Rattle.scheduler.specs.Step.{leftAtStart, turnWord, startTurn, turnsAt};
+ghost use Rattle.scheduler.specs.declared.Turns.{Turns};
+ghost use Rattle.scheduler.specs.InPlace.{Lent, InStep, turnsOf, startOf};
 use super::lookahead;
+use super::ticking::Moment;
 use super::traversal;
 use policy::Policy;
 
-// Who has the turn, and whether its dead time is elided.
+// Who has the turn, whether its dead time is elided, and the turn's number in the log: 0 unless the turn starts.
 pub struct Owned {
     pub owner: usize,
     pub elided: bool,
+    pub shown: u32,
 }
 
-// What a tick's first step left, beside the arrays, and the turn's number in the log.
-pub struct Started {
-    pub owner: usize,
-    pub elided: bool,
-    pub turn: u32,
+// The class where the traversal of a turn starts.
+fn first_class(p: Policy, bottom: usize, number: u32) -> usize
+    requires { ⌜ bottom ≡ least p ⌝ }
+    ensures { λ r. ⌜ r ≡ firstClass p number ⌝ }
+{
+    bottom
 }
 
 // The turns left as a turn starts: the caps, at an epoch's start.
@@ -64,13 +68,27 @@ fn elides(
     pointers: &[usize; 16],
     owner: usize,
 ) -> bool
-    requires { ⌜ (inRange p ≡ true) × (number < 1000000000) × Lent p bottom (now rows) (now covers) (now caps) ⌝ }
+    requires { ⌜ Lent p bottom (now rows) (now covers) (now caps) × (number < lastCycle) ⌝ }
     ensures { λ r. ⌜ r ≡ elides p number (now (left .entry)) (now (pointers .entry)) owner ⌝ }
 {
+    let from = first_class(p, bottom, number + 1);
     if (number + 1) % p.epoch == 0 {
-        return lookahead::reaches(rows, covers, caps, pointers, owner, bottom);
+        return lookahead::reaches(rows, covers, caps, pointers, owner, from);
     }
-    lookahead::reaches(rows, covers, left, pointers, owner, bottom)
+    lookahead::reaches(rows, covers, left, pointers, owner, from)
+}
+
+// A started turn's number in the log.
+fn turn_word(owner: usize, elided: bool) -> u32
+    requires { ⌜ owner < 16 ⌝ }
+    ensures { λ r. ⌜ r ≡ turnWord owner elided ⌝ }
+{
+    let number = owner as u32;
+    if elided {
+        1 + number + 256
+    } else {
+        1 + number + 0
+    }
 }
 
 // Starts the turn with the given number.
@@ -85,69 +103,58 @@ fn start_turn(
     left: &mut [u32; 16],
     pointers: &mut [usize; 16],
 ) -> Owned
-    requires { ⌜ (inRange p ≡ true) × (number < 1000000000) × Lent p bottom (now rows) (now covers) (now caps) × (length (now pointers) ≡ 16) ⌝ }
-    ensures { λ r. ⌜ record { owner = r .owner; elided = r .elided; left = now (left .exit); pointers = now (pointers .exit) } ≡ startTurn p number (now (lengths .entry)) (now (left .entry)) (now (pointers .entry)) ⌝ }
+    requires { ⌜ Lent p bottom (now rows) (now covers) (now caps) × (number < lastCycle) × (length (now pointers) ≡ 16) ⌝ }
+    ensures { λ r. ⌜ startOf r (now (left .exit)) (now (pointers .exit))
+        ≡ startTurn p number (now (lengths .entry)) (now (left .entry)) (now (pointers .entry)) ⌝ }
 {
     left_at_start(p, number, caps, left);
-    let owner = traversal::try_class(rows, covers, lengths, left, pointers, bottom);
+    let from = first_class(p, bottom, number);
+    let owner = traversal::try_class(rows, covers, lengths, left, pointers, from);
     charge(left, owner);
     let elided = elides(p, bottom, number, rows, covers, caps, left, pointers, owner);
-    Owned { owner, elided }
-}
-
-// A started turn's number in the log.
-fn turn_word(owned: Owned) -> u32
-    requires { ⌜ owned .owner < 16 ⌝ }
-    ensures { λ r. ⌜ r ≡ turnWord (owned .owner) (owned .elided) ⌝ }
-{
-    let owner = owned.owner as u32;
-    if owned.elided {
-        1 + owner + 256
-    } else {
-        1 + owner + 0
+    let shown = turn_word(owner, elided);
+    Owned {
+        owner,
+        elided,
+        shown,
     }
 }
 
 // The turns as a tick has them: a turn starts at each multiple of the turn length.
 pub(crate) fn turns_at(
     p: Policy,
-    bottom: usize,
-    cycle: u32,
-    offset: u32,
+    m: Moment,
     rows: &[u16; 16],
     covers: &[u16; 16],
     caps: &[u32; 16],
     lengths: &[usize; 16],
-    before: Owned,
     left: &mut [u32; 16],
     pointers: &mut [usize; 16],
-) -> Started
-    requires { ⌜ (inRange p ≡ true) × (cycle < 16777215) × (offset ≡ cycle % p .timing .turn) × Lent p bottom (now rows) (now covers) (now caps) × (length (now pointers) ≡ 16) ⌝ }
-    ensures { λ r. ⌜ (record { owner = r .owner; elided = r .elided; left = now (left .exit); pointers = now (pointers .exit) } ≡ turnsAt p cycle (now (lengths .entry)) (record { owner = before .owner; elided = before .elided; left = now (left .entry); pointers = now (pointers .entry) })) × (r .turn ≡ turnShown p cycle (record { owner = r .owner; elided = r .elided; left = now (left .exit); pointers = now (pointers .exit) })) ⌝ }
+) -> Owned
+    ghost { Turns }
+    requires { λ turns. ⌜ turnsOf (m .owner) (m .elided) (now left) (now pointers) ≡ turns ⌝ }
+    requires { λ turns. ⌜ Lent p (m .bottom) (now rows) (now covers) (now caps) × InStep p m × (m .cycle < lastCycle)
+        × (length (now pointers) ≡ 16) ⌝ }
+    ensures { λ turns r. ⌜ startOf r (now (left .exit)) (now (pointers .exit)) ≡ turnsAt p (m .cycle) (now (lengths .entry)) turns ⌝ }
 {
-    if offset != 0 {
-        return Started {
-            owner: before.owner,
-            elided: before.elided,
-            turn: 0,
+    if m.offset != 0 {
+        return Owned {
+            owner: m.owner,
+            elided: m.elided,
+            shown: 0,
         };
     }
     let timing = p.timing;
-    let owned = start_turn(
+    let number = m.cycle / timing.turn;
+    start_turn(
         p,
-        bottom,
-        cycle / timing.turn,
+        m.bottom,
+        number,
         rows,
         covers,
         caps,
         lengths,
         left,
         pointers,
-    );
-    let turn = turn_word(owned);
-    Started {
-        owner: owned.owner,
-        elided: owned.elided,
-        turn,
-    }
+    )
 }

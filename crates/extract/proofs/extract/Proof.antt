@@ -5,34 +5,51 @@ use mathlib.Core.Bool.{true}
 use mathlib.Core.List.{List, _++_}
 use Prim.Native.Nat.{ℕ, _*_}
 use native.Mathlib.Omega.{arith}
-use borrow.Author.Tests.{lt-ltb, le-ltb, eqb-true}
+use borrow.Author.Tests.{eqb-true}
 use borrow.Author.Needs.{needs}
 use lib.ListN.{length, drop}
 use Rattle.policy.specs.Mask.{member}
 use Rattle.policy.specs.Policy.{inRange, isClass}
 use Rattle.policy.proofs.Truth.{not-true, not-not}
-use Rattle.extract.specs.Extract.{refusal}
+use Rattle.extract.specs.Extract.{extractStatus}
 use Rattle.extract.proofs.Grown.{kept-le}
 use Rattle.extract.proofs.Answers.{four-times, refused-13, refused-9, refused-17, refused-16, not-refused, refused, taken, written, kept-is, count-is}
 use Rattle.extract.proofs.extract.Statement.{statement}
 use Rattle.extract.proofs.extract.Tie as tie
 
+-- the places that the answers look back to: `start-of-slice-known` is the start, seen from `After-slice-known`
+abbrev start-of-slice-known : tie.After-slice-known → tie.Start
+start-of-slice-known c = c .before .before .before
+
+abbrev start-of-then1 : tie.Then1 → tie.Start
+start-of-then1 c = start-of-slice-known (c .before .before)
+
+abbrev start-of-else1 : tie.Else1 → tie.Start
+start-of-else1 c = start-of-slice-known (c .before .before)
+
+abbrev else1-of-else2 : tie.Else2 → tie.Else1
+else1-of-else2 c = c .before .before
+
+abbrev start-of-else2 : tie.Else2 → tie.Start
+start-of-else2 c = start-of-else1 (else1-of-else2 c)
+
+abbrev start-of-else3 : tie.Else3 → tie.Start
+start-of-else3 c = start-of-else2 (c .before)
+
 -- 13 does not refuse it
-ranged : (c : tie.Else1) → inRange (c .before .before .before .before .before .args .p) ≡ true
+ranged : (c : tie.Else1) → inRange (start-of-else1 c .args .p) ≡ true
 ranged c = sym (c .before .in-range .ensures) ∙ not-not _ (c .if1 .left)
 
 -- nor 9
-classed : (c : tie.Else2) → isClass (c .before .before .before .before .before .before .before .args .p) (c .before .before .before .before .before .before .before .args .class) ≡ true
+classed : (c : tie.Else2) → isClass (start-of-else2 c .args .p) (start-of-else2 c .args .class) ≡ true
 unfolding isClass
-classed c =
-    let a = c .before .before .before .before .before .before .before .args in
-    lt-ltb (a .class) (a .p .classes) (c .if2 .left)
+classed c = sym (c .before .is-class .ensures) ∙ not-not _ (c .if2 .left)
 
 -- nor 17
 fourfold : (c : tie.Else3)
-    → length (c .before .before .before .before .before .before .before .before .args .log .now) ≡ 4 * length (c .before .before .before .before .before .before .before .before .args .trace .now)
+    → length (start-of-else3 c .args .log .now) ≡ 4 * length (start-of-else3 c .args .trace .now)
 fourfold c =
-    let a = c .before .before .before .before .before .before .before .before .args in
+    let a = start-of-else3 c .args in
     eqb-true (length (a .log .now)) (4 * length (a .trace .now)) (not-not _ (sym (four-times (length (a .log .now)) (length (a .trace .now))) ∙ c .if3 .left))
 
 in-range-requires : tie.Need-in-range-requires
@@ -40,23 +57,26 @@ in-range-requires c κs = search needs
 
 returns : tie.Need-returns
 returns c =
-    let a = c .before .before .before .before .before .args in
+    let a = start-of-then1 c .args in
     refused (a .p) (a .class) (a .trace .now) (a .log .now) (a .out .now) 13 refl
     (refused-13 (a .p) (a .class) (a .trace .now) (a .log .now) (a .out .now) (sym (c .before .in-range .ensures) ∙ not-true _ (c .if1 .taken)))
+
+is-class-requires : tie.Need-is-class-requires
+is-class-requires c κs = search needs
 
 returns-2 : tie.Need-returns-2
 unfolding isClass
 returns-2 c =
     let fit = c .before .before in
-    let a = fit .before .before .before .before .before .args in
+    let a = start-of-else1 fit .args in
     refused (a .p) (a .class) (a .trace .now) (a .log .now) (a .out .now) 9 refl
-    (refused-9 (a .p) (a .class) (a .trace .now) (a .log .now) (a .out .now) (ranged fit) (le-ltb (a .class) (a .p .classes) (c .if2 .taken)))
+    (refused-9 (a .p) (a .class) (a .trace .now) (a .log .now) (a .out .now) (ranged fit) (sym (c .before .is-class .ensures) ∙ not-true _ (c .if2 .taken)))
 
 returns-3 : tie.Need-returns-3
 returns-3 c =
     let small = c .before in
-    let fit = small .before .before in
-    let a = fit .before .before .before .before .before .args in
+    let fit = else1-of-else2 small in
+    let a = start-of-else1 fit .args in
     refused (a .p) (a .class) (a .trace .now) (a .log .now) (a .out .now) 17 refl
     (refused-17 (a .p) (a .class) (a .trace .now) (a .log .now) (a .out .now) (ranged fit) (classed small)
     (not-true _ (sym (four-times (length (a .log .now)) (length (a .trace .now))) ∙ c .if3 .taken)))
@@ -70,15 +90,15 @@ kept-requires c κs = search needs
 mul-count : tie.Need-mul-count
 mul-count c =
     let long = c .before .before in
-    let a = long .before .before .before .before .before .before .before .before .args in
+    let a = start-of-else3 long .args in
     omega (arith, c .kept .ensures, kept-le (member (c .before .seen-by .result)) (a .trace .now), fourfold long)
 
 returns-4 : tie.Need-returns-4
 returns-4 c =
     let long = c .before .before .before in
     let small = long .before in
-    let fit = small .before .before in
-    let a = fit .before .before .before .before .before .args in
+    let fit = else1-of-else2 small in
+    let a = start-of-else1 fit .args in
     let count = count-is (a .p) (ranged fit) (a .class) (c .before .before .seen-by .ensures) (a .trace .now) (a .log .now) (c .before .kept .ensures) in
     refused (a .p) (a .class) (a .trace .now) (a .log .now) (a .out .now) 16 refl
     (refused-16 (a .p) (a .class) (a .trace .now) (a .log .now) (a .out .now) (ranged fit) (classed small) (fourfold long) (omega (arith, count, c .if4 .taken)))
@@ -86,11 +106,12 @@ returns-4 c =
 write-requires : tie.Need-write-requires
 write-requires c κs =
     let kept = c .before .before in
-    let long = kept .before .before in
+    let seen-by = kept .before in
+    let long = seen-by .before in
     let fit = long .before .before .before in
-    let a = fit .before .before .before .before .before .args in
-    let is = kept-is (a .p) (ranged fit) (a .class) (kept .before .seen-by .ensures) (a .trace .now) (a .log .now) in
-    let count = count-is (a .p) (ranged fit) (a .class) (kept .before .seen-by .ensures) (a .trace .now) (a .log .now) (kept .kept .ensures) in
+    let a = start-of-else1 fit .args in
+    let is = kept-is (a .p) (ranged fit) (a .class) (seen-by .seen-by .ensures) (a .trace .now) (a .log .now) in
+    let count = count-is (a .p) (ranged fit) (a .class) (seen-by .seen-by .ensures) (a .trace .now) (a .log .now) (kept .kept .ensures) in
     (fourfold long, omega (arith, ap length is, count, c .before .if4 .left))
 
 same-length : tie.Need-same-length
@@ -101,13 +122,14 @@ returns-5 c =
     let wrote = c .before .before in
     let room = wrote .before .before in
     let kept = room .before in
-    let long = kept .before .before in
+    let seen-by = kept .before in
+    let long = seen-by .before in
     let small = long .before in
-    let fit = small .before .before in
-    let a = fit .before .before .before .before .before .args in
-    let is = kept-is (a .p) (ranged fit) (a .class) (kept .before .seen-by .ensures) (a .trace .now) (a .log .now) in
-    let count = count-is (a .p) (ranged fit) (a .class) (kept .before .seen-by .ensures) (a .trace .now) (a .log .now) (kept .kept .ensures) in
-    let none : refusal (a .p) (a .class) (a .trace .now) (a .log .now) (a .out .now) ≡ 0 =
+    let fit = else1-of-else2 small in
+    let a = start-of-else1 fit .args in
+    let is = kept-is (a .p) (ranged fit) (a .class) (seen-by .seen-by .ensures) (a .trace .now) (a .log .now) in
+    let count = count-is (a .p) (ranged fit) (a .class) (seen-by .seen-by .ensures) (a .trace .now) (a .log .now) (kept .kept .ensures) in
+    let none : extractStatus (a .p) (a .class) (a .trace .now) (a .log .now) (a .out .now) ≡ 0 =
     not-refused (a .p) (a .class) (a .trace .now) (a .log .now) (a .out .now) (ranged fit) (classed small) (fourfold long) (omega (arith, count, room .if4 .left))
     in (
       taken (a .p) (a .class) (a .trace .now) (a .log .now) (a .out .now) none count,
@@ -122,6 +144,7 @@ extract-spec =
     (tie.spec
     in-range-requires
     returns
+    is-class-requires
     returns-2
     returns-3
     seen-by-requires

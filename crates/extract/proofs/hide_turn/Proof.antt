@@ -30,14 +30,18 @@ has-requires c κs = search needs
 returns-3 : tie.Need-returns-3
 unfolding ownerSeen hideTurn
 returns-3 c =
-    let turn = c .before .before .before .before .args .turn in
-    rw (ne-eqb turn 0 (c .before .before .before .if1 .left), ne-eqb (turn % 256) 0 (c .before .before .if2 .left), sym (c .before .has .ensures) ∙ c .if3 .taken)
+    let else1 = c .before .before .before in
+    let start = else1 .before in
+    let turn = start .args .turn in
+    rw (ne-eqb turn 0 (else1 .if1 .left), ne-eqb (turn % 256) 0 (c .before .before .if2 .left), sym (c .before .has .ensures) ∙ c .if3 .taken)
 
 returns-4 : tie.Need-returns-4
 unfolding ownerSeen hideTurn
 returns-4 c =
-    let turn = c .before .before .before .before .args .turn in
-    rw (ne-eqb turn 0 (c .before .before .before .if1 .left), ne-eqb (turn % 256) 0 (c .before .before .if2 .left), sym (c .before .has .ensures) ∙ c .if3 .left)
+    let else1 = c .before .before .before in
+    let start = else1 .before in
+    let turn = start .args .turn in
+    rw (ne-eqb turn 0 (else1 .if1 .left), ne-eqb (turn % 256) 0 (c .before .before .if2 .left), sym (c .before .has .ensures) ∙ c .if3 .left)
 
 pub hide-turn-spec : {M : Type 1} → statement M
 hide-turn-spec =

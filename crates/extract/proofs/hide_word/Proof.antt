@@ -3,19 +3,21 @@
 use mathlib.Core.Path.{_≡_, sym, ap, _∙_}
 use borrow.Author.Needs.{needs}
 use Rattle.policy.specs.Mask.{member}
-use Rattle.scheduler.specs.Word.{classOf, requestOf}
-use Rattle.scheduler.specs.declared.Request.{Request}
+use Rattle.scheduler.specs.Word.{classOf}
 use Rattle.extract.specs.Extract.{hideWord}
 use Rattle.extract.proofs.hide_word.Statement.{statement}
 use Rattle.extract.proofs.hide_word.Tie as tie
 
--- what the test answered, of the word's class
-tested : (c : tie.After-has) → c .has .result ≡ member (c .before .before .before .args .seen) (classOf (c .before .before .before .args .word))
-unfolding requestOf
-tested c = c .has .ensures ∙ ap (λ (r : Request). member (c .before .before .before .args .seen) (r .class)) (c .before .before .request-of .ensures)
+-- the places that the answers look back to: `start-of-has` is the start, seen from `After-has`
+abbrev start-of-has : tie.After-has → tie.Start
+start-of-has c = c .before .before
 
-request-of-requires : tie.Need-request-of-requires
-request-of-requires c κs = search needs
+-- what the test answered, of the word's class
+tested : (c : tie.After-has) → c .has .result ≡ member (start-of-has c .args .seen) (classOf (start-of-has c .args .word))
+tested c = c .has .ensures ∙ ap (member (start-of-has c .args .seen)) (c .before .class-of .ensures)
+
+class-of-requires : tie.Need-class-of-requires
+class-of-requires c κs = search needs
 
 cast-has : tie.Need-cast-has
 cast-has c = search needs
@@ -32,4 +34,4 @@ unfolding hideWord
 returns-2 c = rw (sym (tested (c .before)) ∙ c .if1 .left)
 
 pub hide-word-spec : {M : Type 1} → statement M
-hide-word-spec = tie.close (tie.spec request-of-requires cast-has has-requires returns returns-2)
+hide-word-spec = tie.close (tie.spec class-of-requires cast-has has-requires returns returns-2)

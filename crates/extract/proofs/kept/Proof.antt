@@ -20,6 +20,10 @@ Inv-loop seen trace n₀ i₀ n i = (n ≡ length (staying (member seen) (take i
 abbrev μ-loop : tie.MeasureT-loop
 μ-loop seen trace n₀ i₀ n i = length trace - i
 
+-- the places that the answers look back to: `start-of-loop` is the start, seen from `At-loop`
+abbrev start-of-loop : tie.At-loop Inv-loop μ-loop → tie.Start Inv-loop μ-loop
+start-of-loop c = c .before .before
+
 loop-holds : tie.Need-loop-holds Inv-loop μ-loop
 unfolding staying
 loop-holds c = (refl, omega arith, omega arith)
@@ -46,7 +50,7 @@ loop-again : tie.Need-loop-again Inv-loop μ-loop
 loop-again c =
     let told = c .before in
     let at = told .before .before .before in
-    let start = at .before .before in
+    let start = start-of-loop at in
     let f = member (start .args .seen) in
     let trace = start .args .trace .now in
     let i = at .loop .i in
@@ -65,10 +69,11 @@ loop-again c =
 
 returns : tie.Need-returns Inv-loop μ-loop
 returns c =
-    let start = c .before .before .before in
+    let loop = c .before in
+    let start = start-of-loop loop in
     let trace = start .args .trace .now in
-    let all : take (c .before .loop .i) trace ≡ trace = take-all (c .before .loop .i) trace (omega arith) in
-    c .before .loop .inv .0 ∙ ap (λ (l : List ℕ). length (staying (member (start .args .seen)) l)) all
+    let all : take (loop .loop .i) trace ≡ trace = take-all (loop .loop .i) trace (omega arith) in
+    loop .loop .inv .0 ∙ ap (λ (l : List ℕ). length (staying (member (start .args .seen)) l)) all
 
 pub kept-spec : {M : Type 1} → statement M
 kept-spec =

@@ -9,13 +9,32 @@ use native.Mathlib.Omega.{arith}
 use borrow.Author.Needs.{needs}
 use Rattle.policy.specs.Mask.{member}
 use Rattle.extract.specs.Seen.{stays}
-use Rattle.extract.specs.Extract.{lineAt}
+use Rattle.extract.specs.Extract.{lineSeenAt}
 use Rattle.extract.proofs.Grown.{four-left, none-left}
 use Rattle.extract.proofs.put_call.Statement.{statement}
 use Rattle.extract.proofs.put_call.Tie as tie
 
+-- the places that the answers look back to: `start-of-stays` is the start, seen from `After-stays`
+abbrev start-of-stays : tie.After-stays → tie.Start
+start-of-stays c = c .before .before .before
+
+abbrev start-of-then1 : tie.Then1 → tie.Start
+start-of-then1 c = start-of-stays (c .before)
+
+abbrev then1-of-shared-slice-known4 : tie.After-shared-slice-known4 → tie.Then1
+then1-of-shared-slice-known4 c = c .before .before .before
+
+abbrev then1-of-put-line-arg : tie.After-put-line-arg → tie.Then1
+then1-of-put-line-arg c = then1-of-shared-slice-known4 (c .before .before)
+
+abbrev then1-of-slice-known2 : tie.After-slice-known2 → tie.Then1
+then1-of-slice-known2 c = then1-of-put-line-arg (c .before .before .before)
+
+abbrev start-of-else1 : tie.Else1 → tie.Start
+start-of-else1 c = start-of-stays (c .before)
+
 -- the test passed
-kept : (c : tie.Then1) → stays (member (c .before .before .before .before .args .seen)) (c .before .before .before .before .args .word) ≡ true
+kept : (c : tie.Then1) → stays (member (start-of-then1 c .args .seen)) (start-of-then1 c .args .word) ≡ true
 kept c = sym (c .before .stays .ensures) ∙ c .if1 .taken
 
 stays-requires : tie.Need-stays-requires
@@ -56,8 +75,8 @@ shared-slice-read-put-line-4 c = search needs
 
 put-line-requires : tie.Need-put-line-requires
 put-line-requires c κs =
-    let told = c .before .before .before .before .before in
-    let a = told .before .before .before .before .args in
+    let told = then1-of-put-line-arg c in
+    let a = start-of-then1 told .args in
     (kept told, omega (arith, four-left (member (a .seen)) (a .word) (a .log .now) (a .from) (kept told)))
 
 add-result : tie.Need-add-result
@@ -67,16 +86,17 @@ same-length : tie.Need-same-length
 same-length c = search needs
 
 returns : tie.Need-returns
-unfolding lineAt
+unfolding lineSeenAt
 returns c =
-    let told = c .before .before .before .before .before .before .before .before in
-    let a = told .before .before .before .before .args in
+    let told = then1-of-slice-known2 c in
+    let a = start-of-then1 told .args in
     (ap (λ (n : ℕ). a .at + n) (sym (four-left (member (a .seen)) (a .word) (a .log .now) (a .from) (kept told))), c .before .before .put-line .ensures)
 
 returns-2 : tie.Need-returns-2
 returns-2 c =
-    let a = c .before .before .before .before .args in
-    let none : lineAt (member (a .seen)) (a .word) (a .log .now) (a .from) ≡ [] = none-left (member (a .seen)) (a .word) (a .log .now) (a .from) (sym (c .before .stays .ensures) ∙ c .if1 .left) in
+    let start = start-of-else1 c in
+    let a = start .args in
+    let none : lineSeenAt (member (a .seen)) (a .word) (a .log .now) (a .from) ≡ [] = none-left (member (a .seen)) (a .word) (a .log .now) (a .from) (sym (c .before .stays .ensures) ∙ c .if1 .left) in
     (rw none (sym (add-zero (a .at))), rw none)
 
 pub put-call-spec : {M : Type 1} → statement M

@@ -30,11 +30,12 @@ same-length c = search needs
 
 returns : tie.Need-returns
 returns c =
-    let turned = c .before .before .before .before in
+    let put = c .before .before in
+    let turned = put .before .before in
     let first = turned .before .before in
     let taken = first .before in
     let a = taken .before .before .args in
-    c .before .before .put .ensures
+    put .put .ensures
     ∙ ap (λ (l : List ℕ). sets (a .out .now) (a .at) l)
     (tick-line
     (member (a .seen))
@@ -53,10 +54,11 @@ same-length-2 c = search needs
 
 returns-2 : tie.Need-returns-2
 returns-2 c =
-    let left = c .before .before .before .before in
+    let put2 = c .before .before in
+    let left = put2 .before .before in
     let start = left .before .before in
     let a = start .args in
-    c .before .before .put2 .ensures
+    put2 .put2 .ensures
     ∙ ap (λ (l : List ℕ). sets (a .out .now) (a .at) l)
     (offer-line (member (a .seen)) (a .word) (a .status) (a .command) (a .response) (a .turn) (left .if1 .left) (start .pre .0))
 

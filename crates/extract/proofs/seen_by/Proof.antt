@@ -12,7 +12,7 @@ use borrow.Author.Tests.{lt-ltb}
 use lib.Pow.{pow-mono}
 use Rattle.policy.specs.Below.{sum, setOf}
 use Rattle.policy.specs.Mask.{classMask}
-use Rattle.policy.proofs.Sets.{setOf-below}
+use Rattle.policy.proofs.Masks.{setOf-below}
 use Rattle.extract.specs.Seen.{seenBy}
 use Rattle.extract.proofs.seen_by.Statement.{statement}
 use Rattle.extract.proofs.seen_by.Tie as tie
@@ -36,6 +36,10 @@ Inv-loop p class seen₀ c₀ seen c = (seen ≡ setOf c (seenBy p class)) × (c
 abbrev μ-loop : tie.MeasureT-loop
 μ-loop p class seen₀ c₀ seen c = 16 - c
 
+-- the places that the answers look back to: `loop-of-flows` is `At-loop`, seen from `After-flows`
+abbrev loop-of-flows : tie.After-flows Inv-loop μ-loop → tie.At-loop Inv-loop μ-loop
+loop-of-flows c = c .before .before
+
 loop-holds : tie.Need-loop-holds Inv-loop μ-loop
 unfolding setOf sum
 loop-holds c = (refl, omega arith)
@@ -50,7 +54,7 @@ add-seen : tie.Need-add-seen Inv-loop μ-loop
 unfolding seenBy
 add-seen c =
     let flowed = c .before .before in
-    let at = flowed .before .before in
+    let at = loop-of-flows flowed in
     let start = at .before in
     let f = seenBy (start .args .p) (start .args .class) in
     let k = at .loop .c in
@@ -71,7 +75,7 @@ loop-again : tie.Need-loop-again Inv-loop μ-loop
 unfolding seenBy
 loop-again c =
     let flowed = c .before in
-    let at = flowed .before .before in
+    let at = loop-of-flows flowed in
     let start = at .before in
     let f = seenBy (start .args .p) (start .args .class) in
     let k = at .loop .c in
@@ -88,8 +92,10 @@ loop-again c =
 
 returns : tie.Need-returns Inv-loop μ-loop
 returns c =
-    let end : c .before .loop .c ≡ 16 = omega arith in
-    c .before .loop .inv .0 ∙ ap (λ (k : ℕ). setOf k (seenBy (c .before .before .args .p) (c .before .before .args .class))) end
+    let loop = c .before in
+    let start = loop .before in
+    let end : loop .loop .c ≡ 16 = omega arith in
+    loop .loop .inv .0 ∙ ap (λ (k : ℕ). setOf k (seenBy (start .args .p) (start .args .class))) end
 
 pub seen-by-spec : {M : Type 1} → statement M
 seen-by-spec =

@@ -23,6 +23,19 @@ Inv-loop seen trace log out₀ at₀ i₀ out at i =
 abbrev μ-loop : tie.MeasureT-loop
 μ-loop seen trace log out₀ at₀ i₀ out at i = length trace - i
 
+-- the places that the answers look back to: `start-of-slice-known` is the start, seen from `After-slice-known`
+abbrev start-of-slice-known : tie.After-slice-known Inv-loop μ-loop → tie.Start Inv-loop μ-loop
+start-of-slice-known c = c .before .before .before
+
+abbrev start-of-loop : tie.At-loop Inv-loop μ-loop → tie.Start Inv-loop μ-loop
+start-of-loop c = start-of-slice-known (c .before)
+
+abbrev loop-of-in-loop : tie.In-loop Inv-loop μ-loop → tie.At-loop Inv-loop μ-loop
+loop-of-in-loop c = c .before
+
+abbrev loop-of-put-call : tie.After-put-call Inv-loop μ-loop → tie.At-loop Inv-loop μ-loop
+loop-of-put-call c = loop-of-in-loop (c .before .before .before)
+
 loop-holds : tie.Need-loop-holds Inv-loop μ-loop
 unfolding extractOf
 loop-holds c = (refl, refl, refl, omega arith)
@@ -39,7 +52,7 @@ mul-put-call-2 c = omega arith
 put-call-requires : tie.Need-put-call-requires Inv-loop μ-loop
 put-call-requires c κs =
     let at = c .before .before .before in
-    let start = at .before .before .before .before in
+    let start = start-of-loop at in
     let a = start .args in (
       omega arith,
       omega (arith, line-fits (member (a .seen)) (a .trace .now) (a .log .now) (at .loop .i) (length (a .out .now)) (omega arith) (start .pre .1)),
@@ -54,8 +67,8 @@ loop-less c = omega arith
 loop-again : tie.Need-loop-again Inv-loop μ-loop
 loop-again c =
     let put = c .before .before in
-    let at = put .before .before .before .before in
-    let start = at .before .before .before .before in
+    let at = loop-of-put-call put in
+    let start = start-of-loop at in
     let a = start .args in
     let more =
     line-more (member (a .seen)) (a .trace .now) (a .log .now) (a .out .now) (at .loop .i) (omega arith) (start .pre .1) (at .loop .inv .0) (at .loop .inv .1) (put .put-call .ensures .0) (put .put-call .ensures .1)
@@ -68,7 +81,7 @@ same-length c = c .before .loop .inv .2
 returns : tie.Need-returns Inv-loop μ-loop
 returns c =
     let at = c .before in
-    let a = at .before .before .before .before .args in
+    let a = start-of-loop at .args in
     let f = member (a .seen) in
     let all : take (at .loop .i) (a .trace .now) ≡ a .trace .now = take-all (at .loop .i) (a .trace .now) (omega arith) in
     let end : at .loop .at ≡ length (extractOf f (a .trace .now) (a .log .now)) = at .loop .inv .0 ∙ ap (λ (l : List ℕ). length (extractOf f l (a .log .now))) all in

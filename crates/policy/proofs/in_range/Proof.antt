@@ -39,9 +39,10 @@ well-shaped c =
 returns : tie.Need-returns
 unfolding inRange within
 returns c =
-    let start = c .before .before .before .before in
+    let refusal = c .before in
+    let start = refusal .before .before .before in
     rw (well-shaped start)
-    (ap₂ (λ (k : ℕ) (b : Bool). within 1 (start .args .p .classes) 16 && eqb k 0 && b) (c .before .refusal .ensures) (c .all-stored-fits .ensures))
+    (ap₂ (λ (k : ℕ) (b : Bool). within 1 (start .args .p .classes) 16 && eqb k 0 && b) (refusal .refusal .ensures) (c .all-stored-fits .ensures))
 
 pub in-range-spec : {M : Type 1} → statement M
 in-range-spec = tie.close (tie.spec refusal-requires all-stored-fits-requires returns)

@@ -17,6 +17,9 @@ cap-requires c κs = search needs
 cap-in-requires : tie.Need-cap-in-requires
 cap-in-requires c κs = search needs
 
+is-class-requires : tie.Need-is-class-requires
+is-class-requires c κs = search needs
+
 number-of-requires : tie.Need-number-of-requires
 number-of-requires c κs = search needs
 
@@ -32,5 +35,6 @@ stored-fits-spec =
     cover-set-requires
     cap-requires
     cap-in-requires
+    is-class-requires
     number-of-requires
     returns)

@@ -19,7 +19,11 @@ pending-in-range-requires-2 c κs = search needs
 
 returns : tie.Need-returns
 unfolding flightInRange
-returns c = rw (c .pending-in-range2 .ensures, c .before .before .pending-in-range .ensures, c .before .before .before .before .banks-in-range .ensures, c .before .before .before .before .before .before .activate-in-range .ensures)
+returns c =
+    let pending-in-range = c .before .before in
+    let banks-in-range = pending-in-range .before .before in
+    let activate-in-range = banks-in-range .before .before in
+    rw (c .pending-in-range2 .ensures, pending-in-range .pending-in-range .ensures, banks-in-range .banks-in-range .ensures, activate-in-range .activate-in-range .ensures)
 
 pub flight-in-range-spec : {M : Type 1} → statement M
 flight-in-range-spec =

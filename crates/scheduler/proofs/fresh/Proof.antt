@@ -3,12 +3,11 @@
 use mathlib.Core.Path.{sym, ap, _∙_}
 use borrow.Author.Needs.{needs}
 use Rattle.policy.specs.Policy.{inRange}
-use Rattle.policy.proofs.Truth.{not-true, not-not}
+use Rattle.policy.proofs.Truth.{not-true, not-not, on-true, on-false}
 use Rattle.scheduler.specs.Range.{zeros, freshState, zeroState}
 use Rattle.scheduler.specs.Call.{fresh}
 use Rattle.scheduler.specs.declared.State.{State}
 use Rattle.scheduler.specs.declared.Made.{Made}
-use Rattle.scheduler.proofs.Climbing.{on-true, on-false}
 use Rattle.scheduler.proofs.fresh.Statement.{statement}
 use Rattle.scheduler.proofs.fresh.Tie as tie
 
@@ -27,8 +26,9 @@ state-at-start-requires c κs = search needs
 returns : tie.Need-returns
 unfolding fresh zeroState zeros
 returns c =
+    let start = c .before .before .before in
     ap refused (c .state-at-start .ensures)
-    ∙ sym (on-false (inRange (c .before .before .before .args .p)) (made (freshState (c .before .before .before .args .p))) (refused zeroState) (sym (c .before .before .in-range .ensures) ∙ not-true _ (c .before .if1 .taken)))
+    ∙ sym (on-false (inRange (start .args .p)) (made (freshState (start .args .p))) (refused zeroState) (sym (c .before .before .in-range .ensures) ∙ not-true _ (c .before .if1 .taken)))
 
 state-at-start-requires-2 : tie.Need-state-at-start-requires-2
 state-at-start-requires-2 c κs = search needs
@@ -36,8 +36,10 @@ state-at-start-requires-2 c κs = search needs
 returns-2 : tie.Need-returns-2
 unfolding fresh freshState
 returns-2 c =
+    let else1 = c .before .before in
+    let start = else1 .before .before in
     ap made (c .state-at-start2 .ensures)
-    ∙ sym (on-true (inRange (c .before .before .before .before .args .p)) (made (freshState (c .before .before .before .before .args .p))) (refused zeroState) (sym (c .before .before .before .in-range .ensures) ∙ not-not _ (c .before .before .if1 .left)))
+    ∙ sym (on-true (inRange (start .args .p)) (made (freshState (start .args .p))) (refused zeroState) (sym (else1 .before .in-range .ensures) ∙ not-not _ (else1 .if1 .left)))
 
 pub fresh-spec : {M : Type 1} → statement M
 fresh-spec =

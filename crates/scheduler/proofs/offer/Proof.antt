@@ -1,57 +1,69 @@
--- `scheduler::offer` meets its contract: each return is the side of the definition that its test picks.
+-- `scheduler::offer` meets its contract: an offer is the call of its word, and a run over that one number makes it, or is refused with 13.
 -- Assumes nothing.
-use mathlib.Core.Path.{_≡_, sym, ap₂, _∙_}
-use mathlib.Core.Bool.{true}
+use mathlib.Core.Path.{sym, ap, ap₂, _∙_}
+use mathlib.Core.List.{List}
 use Prim.Native.Nat.{ℕ}
-use native.Mathlib.Omega.{arith}
 use borrow.Author.Needs.{needs}
-use Rattle.policy.proofs.Truth.{not-true, not-not}
-use Rattle.policy.proofs.Laws.{policy-laws}
-use Rattle.scheduler.specs.Queue.{headOf}
-use Rattle.scheduler.specs.Range.{inRange}
-use Rattle.scheduler.specs.Call.{offerOn, offer}
-use Rattle.scheduler.specs.declared.Queues.{Queues}
+use lib.ListN.{getD}
+use Rattle.policy.proofs.Truth.{on-false}
+use Rattle.scheduler.specs.Range.{zeros, inRange}
+use Rattle.scheduler.specs.Call.{offer}
+use Rattle.scheduler.specs.Calls.{Answer, answerTo}
 use Rattle.scheduler.specs.declared.State.{State}
 use Rattle.scheduler.specs.declared.Offered.{Offered}
-use Rattle.scheduler.proofs.Climbing.{on-true, on-false}
-use Rattle.scheduler.proofs.Ranged.{ranged}
+use Rattle.scheduler.proofs.Run.{one-refused, one-state, one-log}
+use Rattle.scheduler.proofs.SingleCalls.{offer-called}
 use Rattle.scheduler.proofs.offer.Statement.{statement}
 use Rattle.scheduler.proofs.offer.Tie as tie
 
--- the answer, of a status and the queues after
-abbrev offered : State → ℕ → Queues → Offered
-offered s status queues = record { status = status; state = record { cycle = s .cycle; classes = s .classes; queues = queues; turns = s .turns; flight = s .flight } }
+-- an offer's answer, of its parts
+abbrev offered-of : ℕ → State → Offered
+offered-of status state = record { status = status; state = state }
 
--- 13 does not refuse it
-taken : (c : tie.Else1) → inRange (c .before .before .args .p) (c .before .before .args .s) ≡ true
-taken c = sym (c .before .in-range .ensures) ∙ not-not _ (c .if1 .left)
+-- ---- places
 
-in-range-requires : tie.Need-in-range-requires
-in-range-requires c κs = search needs
+abbrev start-run : tie.After-run → tie.Start
+start-run c = c .before .before .before .before
 
-returns : tie.Need-returns
-unfolding offer
-returns c =
-    let a = c .before .before .args in
-    sym (on-false (inRange (a .p) (a .s)) (offerOn (a .s) (a .r)) (record { status = 13; state = a .s }) (sym (c .before .in-range .ensures) ∙ not-true _ (c .if1 .taken)))
+abbrev word : tie.After-run → ℕ
+word c = c .before .before .before .word-of .result
 
 word-of-requires : tie.Need-word-of-requires
 word-of-requires c κs = search needs
 
-offer-requires : tie.Need-offer-requires
-unfolding headOf
-offer-requires c κs =
-    let a = c .before .before .before .before .before .before .before .before .before .before .args in
-    let r = ranged (a .p) (a .s) (taken (c .before .before .before .before .before .before .before .before)) in
-    let few = policy-laws (a .p) (r .fit) .order .classes-few .1 in
-    (omega (arith, r .same-count), λ k l. r .queue k l .in-ring, c .before .before .before .word-of .ensures)
+slice-aggregate-run : tie.Need-slice-aggregate-run
+slice-aggregate-run c = search needs
+
+slice-aggregate-run-2 : tie.Need-slice-aggregate-run-2
+slice-aggregate-run-2 c = search needs
+
+run-requires : tie.Need-run-requires
+run-requires c κs = search needs
+
+returns : tie.Need-returns
+unfolding offer zeros
+returns c =
+    let ran = c .before .before .before .before in
+    let s = start-run ran in
+    let out = one-refused (s .args .p) (s .args .s) (word ran) (ran .run .result) (ran .run .ensures .0) (c .if1 .taken) in
+    ap (λ (x : State). record { status = 13; state = x }) (out .1) ∙ sym (on-false (inRange (s .args .p) (s .args .s)) _ _ (out .0))
+
+array-read-t8 : tie.Need-array-read-t8
+array-read-t8 c = search needs
 
 returns-2 : tie.Need-returns-2
-unfolding offer offerOn
+unfolding zeros
 returns-2 c =
-    let a = c .before .before .before .before .before .before .before .before .before .before .before .before .before .args in
-    ap₂ (offered (a .s)) (c .before .before .offer .ensures .0) (c .before .before .offer .ensures .1)
-    ∙ sym (on-true (inRange (a .p) (a .s)) (offerOn (a .s) (a .r)) (record { status = 13; state = a .s }) (taken (c .before .before .before .before .before .before .before .before .before .before .before)))
+    let ran = c .before .before .before .before in
+    let s = start-run ran in
+    let p = s .args .p in
+    let none = c .if1 .left in
+    let at = one-log p (s .args .s) (word ran) (ran .run .result) (ran .run .ensures .0) none in
+    let answer = ap (answerTo p (s .args .s)) (ran .before .before .before .word-of .ensures) ∙ offer-called p (s .args .s) (s .args .r) in
+    ap₂ offered-of (ap (λ (l : List ℕ). getD l 0 0) (ran .run .ensures .1 ∙ at)) (one-state p (s .args .s) (word ran) (ran .run .result) (ran .run .ensures .0) none)
+    ∙ ap (λ (a : Answer). offered-of (a .status) (a .state)) answer
 
 pub offer-spec : {M : Type 1} → statement M
-offer-spec = tie.close (tie.spec in-range-requires returns word-of-requires offer-requires returns-2)
+offer-spec =
+    tie.close
+    (tie.spec word-of-requires slice-aggregate-run slice-aggregate-run-2 run-requires returns array-read-t8 returns-2)

@@ -5,13 +5,41 @@ use mathlib.Core.Bool.{true, _&&_}
 use native.Mathlib.Omega.{arith}
 use borrow.Author.Needs.{needs}
 use borrow.Author.Tests.{eq-eqb, leb-true}
-use lib.Dec.{leb, ltb, eqb}
+use lib.Dec.{leb, eqb}
 use lib.ListN.{length}
-use Rattle.policy.specs.Policy.{coversOf, coverCount, cap}
+use Rattle.policy.specs.Policy.{isClass, coversOf, coverCount, cap}
 use Rattle.policy.proofs.Truth.{and-both, and-right, not-true, not-not}
 use Rattle.scheduler.specs.Range.{shaped, countsInRange, turnsInRange, stateInRange}
 use Rattle.scheduler.proofs.state_in_range.Statement.{statement}
 use Rattle.scheduler.proofs.state_in_range.Tie as tie
+
+-- the places that the answers look back to: `else1-of-heads` is `Else1`, seen from `After-heads`
+abbrev else1-of-heads : tie.After-heads → tie.Else1
+else1-of-heads c = c .before .before .before
+
+abbrev else1-of-left : tie.After-left → tie.Else1
+else1-of-left c = else1-of-heads (c .before .before .before)
+
+abbrev else1-of-covers : tie.After-covers → tie.Else1
+else1-of-covers c = else1-of-left (c .before .before .before)
+
+abbrev else1-of-slots2 : tie.After-slots2 → tie.Else1
+else1-of-slots2 c = else1-of-covers (c .before .before .before)
+
+abbrev else1-of-queues-in-range : tie.After-queues-in-range → tie.Else1
+else1-of-queues-in-range c = else1-of-slots2 (c .before .before .before)
+
+abbrev else1-of-left2 : tie.After-left2 → tie.Else1
+else1-of-left2 c = else1-of-queues-in-range (c .before .before .before)
+
+abbrev else1-of-turns-in-range : tie.After-turns-in-range → tie.Else1
+else1-of-turns-in-range c = else1-of-left2 (c .before .before)
+
+abbrev counts-in-range-of-turns-in-range : tie.After-turns-in-range → tie.After-counts-in-range
+counts-in-range-of-turns-in-range c = else1-of-turns-in-range c .before
+
+abbrev start-of-turns-in-range : tie.After-turns-in-range → tie.Start
+start-of-turns-in-range c = counts-in-range-of-turns-in-range c .before
 
 well-shaped : (c : tie.Start) → shaped (c .args .s) ≡ true
 unfolding shaped
@@ -51,15 +79,19 @@ turns-in-range-requires c κs = search needs
 flight-in-range-requires : tie.Need-flight-in-range-requires
 unfolding countsInRange
 flight-in-range-requires c κs =
-    let start = c .before .before .before .before .before .before .before .before .before .before .before .before .before .before .before .before .before .before .before .before .before .before in
-    let counts = sym (c .before .before .before .before .before .before .before .before .before .before .before .before .before .before .before .before .before .before .before .before .before .counts-in-range .ensures) ∙ not-not _ (c .before .before .before .before .before .before .before .before .before .before .before .before .before .before .before .before .before .before .before .before .if1 .left) in
-    omega (arith, leb-true (start .args .s .cycle) 16777215 (and-right (eqb (start .args .s .classes) (start .args .p .classes) && ltb (start .args .s .turns .owner) (start .args .p .classes)) (leb (start .args .s .cycle) 16777215) counts))
+    let start = start-of-turns-in-range c in
+    let counts = sym (counts-in-range-of-turns-in-range c .counts-in-range .ensures) ∙ not-not _ (else1-of-turns-in-range c .if1 .left) in
+    omega (arith, leb-true (start .args .s .cycle) 16777215 (and-right (eqb (start .args .s .classes) (start .args .p .classes) && isClass (start .args .p) (start .args .s .turns .owner)) (leb (start .args .s .cycle) 16777215) counts))
 
 returns-2 : tie.Need-returns-2
 unfolding stateInRange turnsInRange coverCount coversOf cap
 returns-2 c =
-    let start = c .before .before .before .before .before .before .before .before .before .before .before .before .before .before .before .before .before .before .before .before .before .before .before in
-    rw (well-shaped start, sym (c .before .before .before .before .before .before .before .before .before .before .before .before .before .before .before .before .before .before .before .before .before .before .counts-in-range .ensures) ∙ not-not _ (c .before .before .before .before .before .before .before .before .before .before .before .before .before .before .before .before .before .before .before .before .before .if1 .left), c .flight-in-range .ensures, c .before .turns-in-range .ensures, c .before .before .before .before .before .before .queues-in-range .ensures)
+    let left2 = c .before .before .before in
+    let queues-in-range = left2 .before .before .before in
+    let else1 = else1-of-queues-in-range queues-in-range in
+    let counts-in-range = else1 .before in
+    let start = counts-in-range .before in
+    rw (well-shaped start, sym (counts-in-range .counts-in-range .ensures) ∙ not-not _ (else1 .if1 .left), c .flight-in-range .ensures, c .before .turns-in-range .ensures, queues-in-range .queues-in-range .ensures)
 
 pub state-in-range-spec : {M : Type 1} → statement M
 state-in-range-spec =

@@ -1,72 +1,99 @@
--- `scheduler::tick` meets its contract: each return is the side of the definition that its tests pick.
+-- `scheduler::tick` meets its contract: a run over the trace number 0 makes the tick, or is refused with 13, and what the tick showed is read back from its log numbers.
 -- Assumes nothing.
-use mathlib.Core.Path.{_≡_, sym, _∙_}
-use mathlib.Core.Bool.{true}
+use mathlib.Core.Path.{sym, ap, ap₂, _∙_}
+use mathlib.Core.List.{List}
+use Prim.Native.Nat.{ℕ}
 use borrow.Author.Needs.{needs}
-use borrow.Author.Tests.{lt-ltb, le-ltb}
-use Rattle.policy.proofs.Truth.{not-true, not-not}
-use Rattle.scheduler.specs.Range.{inRange}
-use Rattle.scheduler.specs.Call.{silent, afterTick, tickOn, tick}
+use lib.ListN.{getD}
+use Rattle.policy.proofs.Truth.{on-false}
+use Rattle.scheduler.specs.Word.{wiresOf}
+use Rattle.scheduler.specs.Range.{zeros, inRange}
+use Rattle.scheduler.specs.Call.{tick}
+use Rattle.scheduler.specs.Calls.{Answer}
+use Rattle.scheduler.specs.declared.Wires.{Wires}
+use Rattle.scheduler.specs.declared.Record.{Record}
 use Rattle.scheduler.specs.declared.State.{State}
 use Rattle.scheduler.specs.declared.Ticked.{Ticked}
-use Prim.Native.Nat.{ℕ}
-use lib.Dec.{ltb}
-use Rattle.scheduler.proofs.Climbing.{on-true, on-false}
+use Rattle.scheduler.proofs.CallsKept.{tick-wires}
+use Rattle.scheduler.proofs.Run.{one-refused, one-fits, one-state, one-log}
+use Rattle.scheduler.proofs.SingleCalls.{tick-called}
 use Rattle.scheduler.proofs.tick.Statement.{statement}
 use Rattle.scheduler.proofs.tick.Tie as tie
 
--- a refused tick
-abbrev refused : ℕ → State → Ticked
-refused status s = record { status = status; state = s; shown = silent }
+abbrev start-run : tie.After-run → tie.Start
+start-run c = c .before .before .before
 
--- 13 does not refuse it
-taken : (c : tie.Else1) → inRange (c .before .before .args .p) (c .before .before .args .s) ≡ true
-taken c = sym (c .before .in-range .ensures) ∙ not-not _ (c .if1 .left)
+-- a tick's answer, of its parts
+abbrev ticked-of : ℕ → State → Wires → ℕ → ℕ → Ticked
+ticked-of status state wires response turn = record { status = status; state = state; shown = record { wires = wires; response = response; turn = turn } }
 
-in-range-requires : tie.Need-in-range-requires
-in-range-requires c κs = search needs
+-- from the state and the log that the run left
+abbrev read-back : State → List ℕ → Ticked
+read-back state log = ticked-of (getD log 0 0) state (wiresOf (getD log 1 0)) (getD log 2 0) (getD log 3 0)
+
+slice-aggregate-run : tie.Need-slice-aggregate-run
+slice-aggregate-run c = search needs
+
+slice-aggregate-run-2 : tie.Need-slice-aggregate-run-2
+slice-aggregate-run-2 c = search needs
+
+run-requires : tie.Need-run-requires
+run-requires c κs = search needs
 
 silent-requires : tie.Need-silent-requires
 silent-requires c κs = search needs
 
 returns : tie.Need-returns
-unfolding tick
+unfolding tick zeros
 returns c =
-    let a = c .before .before .before .args in
-    rw (c .silent .ensures) (sym (on-false (inRange (a .p) (a .s)) (tickOn (a .p) (a .s)) (refused 13 (a .s)) (sym (c .before .before .in-range .ensures) ∙ not-true _ (c .before .if1 .taken))))
+    let ran = c .before .before .before .before .before in
+    let s = start-run ran in
+    let out = one-refused (s .args .p) (s .args .s) 0 (ran .run .result) (ran .run .ensures .0) (c .before .if1 .taken) in
+    ap₂ (λ (x : State) (r : Record). record { status = 13; state = x; shown = r }) (out .1) (c .silent .ensures) ∙ sym (on-false (inRange (s .args .p) (s .args .s)) _ _ (out .0))
 
-silent-requires-2 : tie.Need-silent-requires-2
-silent-requires-2 c κs = search needs
+array-read-wires-of : tie.Need-array-read-wires-of
+array-read-wires-of c = search needs
+
+wires-of-requires : tie.Need-wires-of-requires
+wires-of-requires c κs = search needs
+
+array-read-t17 : tie.Need-array-read-t17
+array-read-t17 c = search needs
+
+array-read-t22 : tie.Need-array-read-t22
+array-read-t22 c = search needs
+
+array-read-t17-2 : tie.Need-array-read-t17-2
+array-read-t17-2 c = search needs
 
 returns-2 : tie.Need-returns-2
-unfolding tick tickOn
+unfolding zeros
 returns-2 c =
-    let a = c .before .before .before .before .before .args in
-    rw (c .silent2 .ensures)
-    (sym
-    (on-true (inRange (a .p) (a .s)) (tickOn (a .p) (a .s)) (refused 13 (a .s)) (taken (c .before .before .before))
-    ∙ on-false (ltb (a .s .cycle) 16777215) (afterTick (a .p) (a .s)) (refused 12 (a .s)) (le-ltb (a .s .cycle) 16777215 (c .before .if2 .taken))))
-
-step-requires : tie.Need-step-requires
-step-requires c κs = (taken (c .before .before), c .if2 .left)
-
-returns-3 : tie.Need-returns-3
-unfolding tick tickOn
-returns-3 c =
-    let a = c .before .before .before .before .before .args in
-    c .step .ensures
-    ∙ sym
-    (on-true (inRange (a .p) (a .s)) (tickOn (a .p) (a .s)) (refused 13 (a .s)) (taken (c .before .before .before))
-    ∙ on-true (ltb (a .s .cycle) 16777215) (afterTick (a .p) (a .s)) (refused 12 (a .s)) (lt-ltb (a .s .cycle) 16777215 (c .before .if2 .left)))
+    let ran = c .before .before .before .before .before in
+    let s = start-run ran in
+    let p = s .args .p in
+    let none = c .before .if1 .left in
+    let made = ran .run .ensures .0 in
+    let left = ran .run .last .1 .1 .1 .0 in
+    let state = one-state p (s .args .s) 0 (ran .run .result) made none in
+    let log = ran .run .ensures .1 ∙ one-log p (s .args .s) 0 (ran .run .result) made none in
+    ap (λ (w : Wires). ticked-of (getD left 0 0) (ran .run .result .state) w (getD left 2 0) (getD left 3 0)) (c .wires-of .ensures)
+    ∙ ap₂ read-back state log
+    ∙ ap (λ (a : Answer). ticked-of (a .status) (a .state) (wiresOf (a .command)) (a .response) (a .turn)) (tick-called p (s .args .s))
+    ∙ ap (λ (w : Wires). ticked-of (tick p (s .args .s) .status) (tick p (s .args .s) .state) w (tick p (s .args .s) .shown .response) (tick p (s .args .s) .shown .turn)) (tick-wires p (s .args .s) (one-fits p (s .args .s) 0 (ran .run .result) made none))
 
 pub tick-spec : {M : Type 1} → statement M
 tick-spec =
     tie.close
     (tie.spec
-    in-range-requires
+    slice-aggregate-run
+    slice-aggregate-run-2
+    run-requires
     silent-requires
     returns
-    silent-requires-2
-    returns-2
-    step-requires
-    returns-3)
+    array-read-wires-of
+    wires-of-requires
+    array-read-t17
+    array-read-t22
+    array-read-t17-2
+    returns-2)

@@ -18,6 +18,13 @@ Inv-loop log out₀ count table i₀ out i = (out ≡ linesOf i log ++ drop (36 
 abbrev μ-loop : tie.MeasureT-loop
 μ-loop log out₀ count table i₀ out i = count - i
 
+-- the places that the answers look back to: `start-of-least` is the start, seen from `After-least`
+abbrev start-of-least : tie.After-least Inv-loop μ-loop → tie.Start Inv-loop μ-loop
+start-of-least c = c .before .before .before
+
+abbrev start-of-loop : tie.At-loop Inv-loop μ-loop → tie.Start Inv-loop μ-loop
+start-of-loop c = start-of-least (c .before .before)
+
 least-requires : tie.Need-least-requires Inv-loop μ-loop
 least-requires c κs = search needs
 
@@ -37,9 +44,10 @@ loop-less c = omega arith
 
 loop-again : tie.Need-loop-again Inv-loop μ-loop
 loop-again c =
-    let at = c .before .before .before .before .before in
-    let start = at .before .before .before .before .before in
-    let put = c .before .before .put-line in (
+    let put-line = c .before .before in
+    let at = put-line .before .before .before in
+    let start = start-of-loop at in
+    let put = put-line .put-line in (
       line-more (start .args .log .now) (start .args .out .now) (at .loop .i) (omega arith) (at .loop .inv .0) (put .ensures),
       put .kept .1 .1 .1 .0 ∙ at .loop .inv .1,
       omega arith,
@@ -54,9 +62,11 @@ same-length c = c .before .loop .inv .1
 returns : tie.Need-returns Inv-loop μ-loop
 unfolding lineCount
 returns c =
-    let least = c .before .before .before .least in
-    let end : c .before .loop .i ≡ least .result = omega arith in
-    (ap (λ (n : ℕ). 36 * n) (least .ensures), rw (← least .ensures) (rw end at (c .before .loop .inv .0)))
+    let loop = c .before in
+    let at-least = loop .before .before in
+    let least = at-least .least in
+    let end : loop .loop .i ≡ least .result = omega arith in
+    (ap (λ (n : ℕ). 36 * n) (least .ensures), rw (← least .ensures) (rw end at (loop .loop .inv .0)))
 
 pub lines-spec : {M : Type 1} → statement M
 lines-spec =

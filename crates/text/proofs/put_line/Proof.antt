@@ -6,6 +6,34 @@ use Rattle.text.proofs.Grown.{line-put}
 use Rattle.text.proofs.put_line.Statement.{statement}
 use Rattle.text.proofs.put_line.Tie as tie
 
+-- the places that the answers look back to: `start-of-shared-slice-known2` is the start, seen from `After-shared-slice-known2`
+abbrev start-of-shared-slice-known2 : tie.After-shared-slice-known2 → tie.Start
+start-of-shared-slice-known2 c = c .before .before .before
+
+abbrev start-of-put-number : tie.After-put-number → tie.Start
+start-of-put-number c = start-of-shared-slice-known2 (c .before .before)
+
+abbrev put-number-of-shared-slice-known3 : tie.After-shared-slice-known3 → tie.After-put-number
+put-number-of-shared-slice-known3 c = c .before .before .before
+
+abbrev put-number-of-put-number2 : tie.After-put-number2 → tie.After-put-number
+put-number-of-put-number2 c = put-number-of-shared-slice-known3 (c .before .before)
+
+abbrev put-number2-of-shared-slice-known4 : tie.After-shared-slice-known4 → tie.After-put-number2
+put-number2-of-shared-slice-known4 c = c .before .before .before
+
+abbrev put-number2-of-put-number3 : tie.After-put-number3 → tie.After-put-number2
+put-number2-of-put-number3 c = put-number2-of-shared-slice-known4 (c .before .before)
+
+abbrev put-number3-of-shared-slice-known5 : tie.After-shared-slice-known5 → tie.After-put-number3
+put-number3-of-shared-slice-known5 c = c .before .before .before
+
+abbrev put-number3-of-put-number4 : tie.After-put-number4 → tie.After-put-number3
+put-number3-of-put-number4 c = put-number3-of-shared-slice-known5 (c .before .before)
+
+abbrev put-number3-of-slice-known5 : tie.After-slice-known5 → tie.After-put-number3
+put-number3-of-slice-known5 c = put-number3-of-put-number4 (c .before .before)
+
 mul-from : tie.Need-mul-from
 mul-from c = omega arith
 
@@ -71,14 +99,17 @@ same-length c = search needs
 
 returns : tie.Need-returns
 returns c =
-    let start = c .before .before .before .before .before .before .before .before .before .before .before .before .before .before .before .before .before .before .before .before .before .before in
+    let put-number3 = put-number3-of-slice-known5 c in
+    let put-number2 = put-number2-of-put-number3 put-number3 in
+    let put-number = put-number-of-put-number2 put-number2 in
+    let start = start-of-put-number put-number in
     line-put
     (start .args .log .now)
     (start .args .out .now)
     (start .args .i)
-    (c .before .before .before .before .before .before .before .before .before .before .before .before .before .before .before .before .before .put-number .ensures)
-    (c .before .before .before .before .before .before .before .before .before .before .before .before .put-number2 .ensures)
-    (c .before .before .before .before .before .before .before .put-number3 .ensures)
+    (put-number .put-number .ensures)
+    (put-number2 .put-number2 .ensures)
+    (put-number3 .put-number3 .ensures)
     (c .before .before .put-number4 .ensures)
 
 pub put-line-spec : {M : Type 1} → statement M

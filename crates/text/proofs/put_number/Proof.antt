@@ -7,6 +7,19 @@ use Rattle.text.proofs.Grown.{number-put}
 use Rattle.text.proofs.put_number.Statement.{statement}
 use Rattle.text.proofs.put_number.Tie as tie
 
+-- the places that the answers look back to: `put-pair-of-put-pair-arg2` is `After-put-pair`, seen from `After-put-pair-arg2`
+abbrev put-pair-of-put-pair-arg2 : tie.After-put-pair-arg2 → tie.After-put-pair
+put-pair-of-put-pair-arg2 c = c .before .before .before
+
+abbrev put-pair-of-put-pair2 : tie.After-put-pair2 → tie.After-put-pair
+put-pair-of-put-pair2 c = put-pair-of-put-pair-arg2 (c .before)
+
+abbrev put-pair2-of-put-pair-arg3 : tie.After-put-pair-arg3 → tie.After-put-pair2
+put-pair2-of-put-pair-arg3 c = c .before .before .before
+
+abbrev put-pair2-of-put-pair3 : tie.After-put-pair3 → tie.After-put-pair2
+put-pair2-of-put-pair3 c = put-pair2-of-put-pair-arg3 (c .before)
+
 put-pair-requires : tie.Need-put-pair-requires
 put-pair-requires c κs = search needs
 
@@ -39,7 +52,11 @@ same-length c = simp length-set (search needs)
 
 returns : tie.Need-returns
 returns c =
-    let start = c .before .before .before .before .before .before .before .before .before .before .before .before .before .before .before .before .before in
+    let put-pair-arg4 = c .before .before .before in
+    let put-pair3 = put-pair-arg4 .before .before .before in
+    let put-pair2 = put-pair2-of-put-pair3 put-pair3 in
+    let put-pair = put-pair-of-put-pair2 put-pair2 in
+    let start = put-pair .before .before .before in
     number-put
     (start .args .table .now)
     (start .args .out .now)
@@ -48,9 +65,9 @@ returns c =
     (start .args .sign)
     (start .pre .0)
     (omega arith)
-    (c .before .before .before .before .before .before .before .before .before .before .before .before .before .before .put-pair .ensures)
-    (c .before .before .before .before .before .before .before .before .before .before .put-pair2 .ensures)
-    (c .before .before .before .before .before .before .put-pair3 .ensures)
+    (put-pair .put-pair .ensures)
+    (put-pair2 .put-pair2 .ensures)
+    (put-pair3 .put-pair3 .ensures)
     (c .before .before .put-pair4 .ensures)
 
 pub put-number-spec : {M : Type 1} → statement M

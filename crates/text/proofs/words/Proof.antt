@@ -17,6 +17,13 @@ Inv-loop bytes out₀ count i₀ out i = (out ≡ wordsOf i bytes ++ drop i out�
 abbrev μ-loop : tie.MeasureT-loop
 μ-loop bytes out₀ count i₀ out i = count - i
 
+-- the places that the answers look back to: `start-of-least` is the start, seen from `After-least`
+abbrev start-of-least : tie.After-least Inv-loop μ-loop → tie.Start Inv-loop μ-loop
+start-of-least c = c .before .before .before
+
+abbrev start-of-loop : tie.At-loop Inv-loop μ-loop → tie.Start Inv-loop μ-loop
+start-of-loop c = start-of-least (c .before)
+
 least-requires : tie.Need-least-requires Inv-loop μ-loop
 least-requires c κs = search needs
 
@@ -42,7 +49,7 @@ loop-less c = omega arith
 loop-again : tie.Need-loop-again Inv-loop μ-loop
 loop-again c =
     let at = c .before .before in
-    let start = at .before .before .before .before in (
+    let start = start-of-loop at in (
       word-more (start .args .bytes .now) (start .args .out .now) (at .loop .i) (omega arith) (at .loop .inv .0) (c .word-at .ensures),
       length-set (at .loop .out) (at .loop .i) (c .word-at .result) ∙ at .loop .inv .1,
       omega arith,
@@ -54,8 +61,10 @@ same-length c = c .before .loop .inv .1
 returns : tie.Need-returns Inv-loop μ-loop
 unfolding wordCount
 returns c =
-    let end : c .before .loop .i ≡ c .before .before .least .result = omega arith in
-    (c .before .before .least .ensures, rw end at (c .before .loop .inv .0))
+    let loop = c .before in
+    let least = loop .before in
+    let end : loop .loop .i ≡ least .least .result = omega arith in
+    (least .least .ensures, rw end at (loop .loop .inv .0))
 
 pub words-spec : {M : Type 1} → statement M
 words-spec =

@@ -13,22 +13,52 @@ use Rattle.io.proofs.Counting.{counts}
 use Rattle.vigambul.proofs.block.Statement.{statement}
 use Rattle.vigambul.proofs.block.Tie as tie
 
+-- the places that the answers look back to: `start-of-slice-known3` is the start, seen from `After-slice-known3`
+abbrev start-of-slice-known3 : tie.After-slice-known3 → tie.Start
+start-of-slice-known3 c = c .before .before .before
+
+abbrev start-of-fill-arg2 : tie.After-fill-arg2 → tie.Start
+start-of-fill-arg2 c = start-of-slice-known3 (c .before .before .before)
+
+abbrev start-of-slice-known5 : tie.After-slice-known5 → tie.Start
+start-of-slice-known5 c = start-of-fill-arg2 (c .before .before .before)
+
+abbrev start-of-words : tie.After-words → tie.Start
+start-of-words c = start-of-slice-known5 (c .before .before .before)
+
+abbrev words-of-run-arg : tie.After-run-arg → tie.After-words
+words-of-run-arg c = c .before .before .before
+
+abbrev words-of-run : tie.After-run → tie.After-words
+words-of-run c = words-of-run-arg (c .before .before)
+
+abbrev words-of-state : tie.After-state → tie.After-words
+words-of-state c = words-of-run (c .before .before .before)
+
+abbrev start-of-state : tie.After-state → tie.Start
+start-of-state c = start-of-words (words-of-state c)
+
+abbrev start-of-lines : tie.After-lines → tie.Start
+start-of-lines c = start-of-state (c .before .before .before)
+
 -- the words that were read fit their buffer
-words-fit : (c : tie.After-words) → c .words .result ≤ length (c .before .before .before .before .before .before .before .before .before .before .before .before .args .words .now)
+words-fit : (c : tie.After-words) → c .words .result ≤ length (start-of-words c .args .words .now)
 unfolding wordCount
-words-fit c = subst (λ (k : ℕ). k ≤ length (c .before .before .before .before .before .before .before .before .before .before .before .before .args .words .now)) (sym (c .words .ensures .0)) (min-le-right _ _)
+words-fit c = subst (λ (k : ℕ). k ≤ length (start-of-words c .args .words .now)) (sym (c .words .ensures .0)) (min-le-right _ _)
 
 -- and their numbers the log
-log-fits : (c : tie.After-words) → 4 * c .words .result ≤ length (c .before .before .before .before .before .before .before .before .before .before .before .before .args .log .now)
-log-fits c = let few = words-fit c in omega (arith, few, c .before .before .before .before .before .before .before .before .before .before .before .before .pre)
+log-fits : (c : tie.After-words) → 4 * c .words .result ≤ length (start-of-words c .args .log .now)
+log-fits c = let few = words-fit c in omega (arith, few, start-of-words c .pre)
 
 -- the lines fit their buffer
 few-lines : (log out : List ℕ) → 36 * lineCount log out ≤ length out
 unfolding lineCount
 few-lines log out = let few = min-le-right (length log / 4) (length out / 36) in omega (arith, few)
 
-lines-fit : (c : tie.After-lines) → c .lines .result ≤ length (c .before .before .before .before .before .before .before .before .before .before .before .before .before .before .before .before .before .before .before .before .before .before .before .args .text .now)
-lines-fit c = subst (λ (k : ℕ). k ≤ length (c .before .before .before .before .before .before .before .before .before .before .before .before .before .before .before .before .before .before .before .before .before .before .before .args .text .now)) (sym (c .lines .ensures .0)) (few-lines _ (c .before .before .before .before .before .before .before .before .before .before .before .before .before .before .before .before .before .before .before .before .before .before .before .args .text .now))
+lines-fit : (c : tie.After-lines) → c .lines .result ≤ length (start-of-lines c .args .text .now)
+lines-fit c =
+    let start = start-of-lines c in
+    subst (λ (k : ℕ). k ≤ length (start .args .text .now)) (sym (c .lines .ensures .0)) (few-lines _ (start .args .text .now))
 
 slice-aggregate-fill : tie.Need-slice-aggregate-fill
 slice-aggregate-fill c = search needs
@@ -46,7 +76,9 @@ words-requires : tie.Need-words-requires
 words-requires c κs = search needs
 
 slice-reshare-prefix-run : tie.Need-slice-reshare-prefix-run
-slice-reshare-prefix-run c = let few = words-fit (c .before .before) in omega (arith, few, c .before .before .words .kept .1 .0)
+slice-reshare-prefix-run c =
+    let words = c .before .before in
+    let few = words-fit words in omega (arith, few, words .words .kept .1 .0)
 
 slice-aggregate-run : tie.Need-slice-aggregate-run
 slice-aggregate-run c = counts _ _ (slice-reshare-prefix-run (c .before)) .1
@@ -55,10 +87,10 @@ run-requires : tie.Need-run-requires
 run-requires c κs = search needs
 
 mul-lines : tie.Need-mul-lines
-mul-lines c = let few = log-fits (c .before .before .before .before .before .before .before .before) in omega (arith, few, c .before .before .before .before .before .before .before .before .before .before .before .before .before .before .before .before .before .before .before .before .good .1 .1 .1 .1 .1 .0 .0)
+mul-lines c = let few = log-fits (words-of-state c) in omega (arith, few, start-of-state c .good .1 .1 .1 .1 .1 .0 .0)
 
 slice-reshare-prefix-lines : tie.Need-slice-reshare-prefix-lines
-slice-reshare-prefix-lines c = let few = log-fits (c .before .before .before .before .before .before .before .before) in omega (arith, few, c .before .before .before .run .kept .1 .1 .1 .0)
+slice-reshare-prefix-lines c = let few = log-fits (words-of-state c) in omega (arith, few, c .before .before .before .run .kept .1 .1 .1 .0)
 
 slice-aggregate-lines : tie.Need-slice-aggregate-lines
 slice-aggregate-lines c = counts _ _ (slice-reshare-prefix-lines (c .before)) .1
@@ -67,7 +99,9 @@ lines-requires : tie.Need-lines-requires
 lines-requires c κs = search needs
 
 slice-reshare-prefix-print : tie.Need-slice-reshare-prefix-print
-slice-reshare-prefix-print c = let few = lines-fit (c .before .before) in omega (arith, few, c .before .before .lines .kept .1 .0)
+slice-reshare-prefix-print c =
+    let lines = c .before .before in
+    let few = lines-fit lines in omega (arith, few, lines .lines .kept .1 .0)
 
 slice-aggregate-print : tie.Need-slice-aggregate-print
 slice-aggregate-print c = counts _ _ (slice-reshare-prefix-print (c .before)) .1

@@ -20,8 +20,8 @@ cast-timing c = search needs
 start-requires-3 : tie.Need-start-requires-3
 start-requires-3 c κs = search needs
 
-size-requires : tie.Need-size-requires
-size-requires c κs = search needs
+body-size-requires : tie.Need-body-size-requires
+body-size-requires c κs = search needs
 
 cast-result : tie.Need-cast-result
 cast-result c = search needs
@@ -29,8 +29,8 @@ cast-result c = search needs
 add-result : tie.Need-add-result
 add-result c = search needs
 
-size-requires-2 : tie.Need-size-requires-2
-size-requires-2 c κs = search needs
+body-size-requires-2 : tie.Need-body-size-requires-2
+body-size-requires-2 c κs = search needs
 
 cast-result-2 : tie.Need-cast-result-2
 cast-result-2 c = search needs
@@ -38,8 +38,8 @@ cast-result-2 c = search needs
 add-result-2 : tie.Need-add-result-2
 add-result-2 c = search needs
 
-size-requires-3 : tie.Need-size-requires-3
-size-requires-3 c κs = search needs
+body-size-requires-3 : tie.Need-body-size-requires-3
+body-size-requires-3 c κs = search needs
 
 cast-result-3 : tie.Need-cast-result-3
 cast-result-3 c = search needs
@@ -49,7 +49,11 @@ add-result-3 c = search needs
 
 returns : tie.Need-returns
 unfolding bodiesAbut
-returns c = rw (c .size3 .ensures, c .before .size2 .ensures, c .before .before .size .ensures, c .before .before .before .start3 .ensures, c .before .before .before .before .start2 .ensures, c .before .before .before .before .before .start .ensures)
+returns c =
+    let start3 = c .before .before .before in
+    let start2 = start3 .before in
+    let start = start2 .before in
+    rw (c .body-size3 .ensures, c .before .body-size2 .ensures, c .before .before .body-size .ensures, start3 .start3 .ensures, start2 .start2 .ensures, start .start .ensures)
 
 pub bodies-abut-spec : {M : Type 1} → statement M
 bodies-abut-spec =
@@ -60,13 +64,13 @@ bodies-abut-spec =
     start-requires-2
     cast-timing
     start-requires-3
-    size-requires
+    body-size-requires
     cast-result
     add-result
-    size-requires-2
+    body-size-requires-2
     cast-result-2
     add-result-2
-    size-requires-3
+    body-size-requires-3
     cast-result-3
     add-result-3
     returns)

@@ -1,24 +1,20 @@
 -- `policy::file::covers_in` meets its contract. The invariant: the entries below `i` are filled.
 -- Assumes nothing.
-use mathlib.Core.Path.{_≡_, refl, _∙_}
-use Prim.Native.Nat.{ℕ, _-_, _≤_, _<_}
-use native.Mathlib.Omega.{arith}
+use Prim.Native.Nat.{_-_}
 use borrow.Author.Needs.{needs}
-use native.Mathlib.Nat.{not-suc-le-zero}
-use lib.ListN.{length, getD, length-set}
 use Rattle.policy.specs.Order.{coverSet}
-use Rattle.policy.proofs.Below.{filled-more, filled}
+use Rattle.policy.proofs.Loops.{Filled, filled-none, filled-more, filled-all}
 use Rattle.policy.proofs.file.covers_in.Statement.{statement}
 use Rattle.policy.proofs.file.covers_in.Tie as tie
 
 abbrev Inv-loop : tie.InvT-loop
-Inv-loop rows covers₀ i₀ covers i = (length covers ≡ 16) × ((k : ℕ) → k < i → getD covers k 0 ≡ coverSet rows k) × (i ≤ 16)
+Inv-loop rows covers₀ i₀ covers i = Filled (coverSet rows) 16 covers i
 
 abbrev μ-loop : tie.MeasureT-loop
 μ-loop rows covers₀ i₀ covers i = 16 - i
 
 loop-holds : tie.Need-loop-holds Inv-loop μ-loop
-loop-holds c = (refl, λ k h. absurd (not-suc-le-zero h), omega arith)
+loop-holds c = filled-none _ 16
 
 cover-set-requires : tie.Need-cover-set-requires Inv-loop μ-loop
 cover-set-requires c κs = search needs
@@ -36,19 +32,10 @@ loop-less : tie.Need-loop-less Inv-loop μ-loop
 loop-less c = search needs
 
 loop-again : tie.Need-loop-again Inv-loop μ-loop
-loop-again c =
-    let at = c .before .before in
-    let below : at .loop .i < length (at .loop .covers) = omega (arith, at .loop .inv .0) in (
-      length-set (at .loop .covers) (at .loop .i) (c .cover-set .result) ∙ at .loop .inv .0,
-      rw (c .cover-set .ensures) (filled-more (coverSet (at .before .args .rows)) (at .loop .covers) (at .loop .i) below (at .loop .inv .1)),
-      omega arith,
-    )
+loop-again c = let at = c .before .before in filled-more _ 16 (at .loop .covers) (at .loop .i) (at .loop .inv) (c .before .loop-test .taken) (c .cover-set .ensures)
 
 returns : tie.Need-returns Inv-loop μ-loop
-returns c =
-    let at = c .before in
-    let end : at .loop .i ≡ 16 = omega arith in
-    filled (coverSet (at .before .args .rows)) (at .loop .covers) 16 (at .loop .inv .0) (rw end at (at .loop .inv .1))
+returns c = let at = c .before in filled-all _ 16 (at .loop .covers) (at .loop .i) (at .loop .inv) (c .loop-test .left)
 
 pub covers-in-spec : {M : Type 1} → statement M
 covers-in-spec =

@@ -37,7 +37,13 @@ caps-in-requires c κs = search needs
 
 returns : tie.Need-returns
 unfolding held classCount epochOf
-returns c = rw (c .caps-in .ensures, c .before .covers-in .ensures, c .before .before .timing-of .ensures, c .before .before .before .minimums-of .ensures, c .before .before .before .before .number .ensures, c .before .before .before .before .before .start .ensures, c .before .before .before .before .before .before .rows-of .ensures, c .before .before .before .before .before .before .before .byte .ensures)
+returns c =
+    let minimums-of = c .before .before .before in
+    let number = minimums-of .before in
+    let start = number .before in
+    let rows-of = start .before in
+    let byte = rows-of .before in
+    rw (c .caps-in .ensures, c .before .covers-in .ensures, c .before .before .timing-of .ensures, minimums-of .minimums-of .ensures, number .number .ensures, start .start .ensures, rows-of .rows-of .ensures, byte .byte .ensures)
 
 pub held-spec : {M : Type 1} → statement M
 held-spec =

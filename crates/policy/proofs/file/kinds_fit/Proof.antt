@@ -19,7 +19,9 @@ byte-requires-4 c κs = search needs
 
 returns : tie.Need-returns
 unfolding kindsFit kind
-returns c = rw (c .byte4 .ensures, c .before .byte3 .ensures, c .before .before .byte2 .ensures, c .before .before .before .byte .ensures)
+returns c =
+    let byte = c .before .before .before in
+    rw (c .byte4 .ensures, c .before .byte3 .ensures, c .before .before .byte2 .ensures, byte .byte .ensures)
 
 pub kinds-fit-spec : {M : Type 1} → statement M
 kinds-fit-spec =

@@ -12,8 +12,8 @@ byte-requires c κs = search needs
 cast-n : tie.Need-cast-n
 cast-n c = search needs
 
-size-requires : tie.Need-size-requires
-size-requires c κs = search needs
+body-size-requires : tie.Need-body-size-requires
+body-size-requires c κs = search needs
 
 cast-result : tie.Need-cast-result
 cast-result c = search needs
@@ -24,8 +24,8 @@ mul-result c = search needs
 add-result : tie.Need-add-result
 add-result c = search needs
 
-size-requires-2 : tie.Need-size-requires-2
-size-requires-2 c κs = search needs
+body-size-requires-2 : tie.Need-body-size-requires-2
+body-size-requires-2 c κs = search needs
 
 cast-result-2 : tie.Need-cast-result-2
 cast-result-2 c = search needs
@@ -33,12 +33,14 @@ cast-result-2 c = search needs
 add-result-2 : tie.Need-add-result-2
 add-result-2 c = search needs
 
-size-requires-3 : tie.Need-size-requires-3
-size-requires-3 c κs = search needs
+body-size-requires-3 : tie.Need-body-size-requires-3
+body-size-requires-3 c κs = search needs
 
 returns : tie.Need-returns
 unfolding lengthsFit classCount within
-returns c = rw (c .size3 .ensures, c .before .size2 .ensures, c .before .before .size .ensures, c .before .before .before .byte .ensures)
+returns c =
+    let byte = c .before .before .before in
+    rw (c .body-size3 .ensures, c .before .body-size2 .ensures, c .before .before .body-size .ensures, byte .byte .ensures)
 
 pub lengths-fit-spec : {M : Type 1} → statement M
 lengths-fit-spec =
@@ -46,12 +48,12 @@ lengths-fit-spec =
     (tie.spec
     byte-requires
     cast-n
-    size-requires
+    body-size-requires
     cast-result
     mul-result
     add-result
-    size-requires-2
+    body-size-requires-2
     cast-result-2
     add-result-2
-    size-requires-3
+    body-size-requires-3
     returns)

@@ -33,8 +33,9 @@ number-requires c κs = search needs
 returns : tie.Need-returns
 unfolding minimumAt classCount
 returns c =
-    let start = c .before .before .before .before .before in
-    let below : start .args .i < byte (start .args .s .now) 16 = omega (arith, c .before .before .before .byte .ensures) in
+    let at-byte = c .before .before .before in
+    let start = at-byte .before .before in
+    let below : start .args .i < byte (start .args .s .now) 16 = omega (arith, at-byte .byte .ensures) in
     rw (lt-ltb (start .args .i) (byte (start .args .s .now) 16) below) (c .number .ensures ∙ ap (λ (at : ℕ). byte (start .args .s .now) (at + 1 + start .args .i)) (c .before .start .ensures))
 
 returns-2 : tie.Need-returns-2

@@ -19,12 +19,28 @@ past-two : (s : List ℕ) → contentsFit s ≡ true → lengthsFit s ≡ true �
 unfolding status fileTests firstFailing refusal
 past-two s p q = rw (p, q)
 
+-- the places that the answers look back to: `start-of-contents-fit` is the start, seen from `After-contents-fit`
+abbrev start-of-contents-fit : tie.After-contents-fit → tie.Start
+start-of-contents-fit c = c .before .before
+
+abbrev start-of-refused : tie.After-refused → tie.Start
+start-of-refused c = start-of-contents-fit (c .before .before)
+
+abbrev start-of-else2 : tie.Else2 → tie.Start
+start-of-else2 c = start-of-contents-fit (c .before .before .before)
+
+abbrev start-of-refusal : tie.After-refusal → tie.Start
+start-of-refusal c = start-of-else2 (c .before .before)
+
+abbrev start-of-refused3 : tie.After-refused3 → tie.Start
+start-of-refused3 c = start-of-refusal (c .before .before)
+
 -- and that is what the call of `refusal` answered
-number-is : (at : tie.After-refusal) → status (at .before .before .before .before .before .before .before .args .s .now) ≡ at .refusal .result
+number-is : (at : tie.After-refusal) → status (start-of-refusal at .args .s .now) ≡ at .refusal .result
 number-is at =
     let lengths = at .before .before .before in
     let contents = lengths .before .before in
-    let s = contents .before .before .args .s .now in
+    let s = start-of-contents-fit contents .args .s .now in
     past-two s (sym (contents .contents-fit .ensures) ∙ not-not _ (lengths .before .if1 .left)) (sym (lengths .lengths-fit .ensures) ∙ not-not _ (at .before .before .if2 .left))
     ∙ sym (at .refusal .ensures ∙ ap refusal (at .before .held .ensures))
 
@@ -40,7 +56,8 @@ refused-requires c κs = search needs
 returns : tie.Need-returns
 unfolding readFile status fileTests firstFailing
 returns c =
-    let s = c .before .before .before .before .args .s .now in
+    let start = start-of-refused c in
+    let s = start .args .s .now in
     let fails : contentsFit s ≡ false = sym (c .before .before .contents-fit .ensures) ∙ not-true _ (c .before .if1 .taken) in
     rw fails (c .refused .ensures)
 
@@ -53,8 +70,11 @@ refused-requires-2 c κs = search needs
 returns-2 : tie.Need-returns-2
 unfolding readFile status fileTests firstFailing
 returns-2 c =
-    let s = c .before .before .before .before .before .before .args .s .now in
-    let passes : contentsFit s ≡ true = sym (c .before .before .before .before .contents-fit .ensures) ∙ not-not _ (c .before .before .before .if1 .left) in
+    let else1 = c .before .before .before in
+    let contents-fit = else1 .before in
+    let start = start-of-contents-fit contents-fit in
+    let s = start .args .s .now in
+    let passes : contentsFit s ≡ true = sym (contents-fit .contents-fit .ensures) ∙ not-not _ (else1 .if1 .left) in
     let fails : lengthsFit s ≡ false = sym (c .before .before .lengths-fit .ensures) ∙ not-true _ (c .before .if2 .taken) in
     rw (passes, fails) (c .refused2 .ensures)
 
@@ -70,7 +90,8 @@ refused-requires-3 c κs = search needs
 returns-3 : tie.Need-returns-3
 unfolding readFile
 returns-3 c =
-    let s = c .before .before .before .before .before .before .before .before .before .args .s .now in
+    let start = start-of-refused3 c in
+    let s = start .args .s .now in
     let at = c .before .before in
     let number = number-is at in
     rw (number, ne-eqb (at .refusal .result) 0 (c .before .if3 .taken)) (c .refused3 .ensures)

@@ -26,8 +26,9 @@ word-requires c κs = search needs
 returns : tie.Need-returns
 unfolding rowAt classCount
 returns c =
-    let start = c .before .before .before .before in
-    let below : start .args .i < byte (start .args .s .now) 16 = omega (arith, c .before .before .byte .ensures) in
+    let then1 = c .before in
+    let start = then1 .before .before .before in
+    let below : start .args .i < byte (start .args .s .now) 16 = omega (arith, then1 .before .byte .ensures) in
     rw (lt-ltb (start .args .i) (byte (start .args .s .now) 16) below) (c .word .ensures)
 
 returns-2 : tie.Need-returns-2

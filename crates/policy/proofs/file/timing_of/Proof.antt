@@ -70,7 +70,16 @@ number-requires-10 c κs = search needs
 
 returns : tie.Need-returns
 unfolding timingOf
-returns c = rw (c .number10 .ensures, c .before .number9 .ensures, c .before .before .number8 .ensures, c .before .before .before .number7 .ensures, c .before .before .before .before .number6 .ensures, c .before .before .before .before .before .number5 .ensures, c .before .before .before .before .before .before .number4 .ensures, c .before .before .before .before .before .before .before .number3 .ensures, c .before .before .before .before .before .before .before .before .number2 .ensures, c .before .before .before .before .before .before .before .before .before .number .ensures, c .before .before .before .before .before .before .before .before .before .before .start .ensures)
+returns c =
+    let number7 = c .before .before .before in
+    let number6 = number7 .before in
+    let number5 = number6 .before in
+    let number4 = number5 .before in
+    let number3 = number4 .before in
+    let number2 = number3 .before in
+    let number = number2 .before in
+    let start = number .before in
+    rw (c .number10 .ensures, c .before .number9 .ensures, c .before .before .number8 .ensures, number7 .number7 .ensures, number6 .number6 .ensures, number5 .number5 .ensures, number4 .number4 .ensures, number3 .number3 .ensures, number2 .number2 .ensures, number .number .ensures, start .start .ensures)
 
 pub timing-of-spec : {M : Type 1} → statement M
 timing-of-spec =

@@ -6,7 +6,7 @@ use native.Mathlib.Omega.{arith}
 use borrow.Author.Needs.{needs}
 use lib.Pow.{pow-pos}
 use Rattle.policy.specs.Mask.{belowMask}
-use Rattle.policy.proofs.Sets.{one-shl}
+use Rattle.policy.proofs.Masks.{one-shl}
 use Rattle.policy.proofs.mask.below_mask.Statement.{statement}
 use Rattle.policy.proofs.mask.below_mask.Tie as tie
 
@@ -17,7 +17,9 @@ shl-result : tie.Need-shl-result
 shl-result c = search needs
 
 sub-result : tie.Need-sub-result
-sub-result c = rw (one-shl (c .before .args .number) (c .if1 .taken)) (pow-pos (c .before .args .number))
+sub-result c =
+    let start = c .before in
+    rw (one-shl (start .args .number) (c .if1 .taken)) (pow-pos (start .args .number))
 
 returns : tie.Need-returns
 unfolding belowMask

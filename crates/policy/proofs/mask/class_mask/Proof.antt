@@ -4,7 +4,7 @@ use mathlib.Core.Path.{_∙_}
 use borrow.Author.Needs.{needs}
 use borrow.Author.Tests.{lt-ltb, le-ltb}
 use Rattle.policy.specs.Mask.{classMask}
-use Rattle.policy.proofs.Sets.{one-shl}
+use Rattle.policy.proofs.Masks.{one-shl}
 use Rattle.policy.proofs.mask.class_mask.Statement.{statement}
 use Rattle.policy.proofs.mask.class_mask.Tie as tie
 

@@ -3,7 +3,7 @@
 use mathlib.Core.Path.{refl, sym}
 use borrow.Author.Needs.{needs}
 use Rattle.policy.specs.Mask.{member}
-use Rattle.policy.proofs.Sets.{member-over}
+use Rattle.policy.proofs.Masks.{member-over}
 use Rattle.policy.proofs.mask.has.Statement.{statement}
 use Rattle.policy.proofs.mask.has.Tie as tie
 
@@ -18,7 +18,9 @@ unfolding member
 returns c = refl
 
 returns-2 : tie.Need-returns-2
-returns-2 c = sym (member-over (c .before .args .set) 16 (c .before .args .class) (c .before .fits .set .fits) (c .if1 .left))
+returns-2 c =
+    let start = c .before in
+    sym (member-over (start .args .set) 16 (start .args .class) (start .fits .set .fits) (c .if1 .left))
 
 pub has-spec : {M : Type 1} → statement M
 has-spec = tie.close (tie.spec cast-result shr-result returns returns-2)

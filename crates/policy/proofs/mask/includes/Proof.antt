@@ -1,6 +1,6 @@
 -- `policy::mask::includes` meets its contract: adding the part changes nothing exactly if it is there already.
 -- Assumes nothing.
-use Rattle.policy.proofs.Sets.{or-includes}
+use Rattle.policy.proofs.Masks.{or-includes}
 use Rattle.policy.proofs.mask.includes.Statement.{statement}
 use Rattle.policy.proofs.mask.includes.Tie as tie
 

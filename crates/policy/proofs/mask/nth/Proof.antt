@@ -2,16 +2,17 @@
 -- Assumes nothing.
 use mathlib.Core.Path.{_≡_, sym, _∙_}
 use mathlib.Core.Logic.{⊎-elim}
-use mathlib.Core.Bool.{Bool, false, _&&_}
-use Prim.Native.Nat.{ℕ, _+_, _-_, _≤_}
+use mathlib.Core.Bool.{Bool, _&&_}
+use Prim.Native.Nat.{ℕ, _+_, _-_}
 use native.Mathlib.Omega.{arith}
 use borrow.Author.Needs.{needs}
 use lib.Dec.{eqb}
-use Rattle.policy.specs.Below.{some, count}
+use Rattle.policy.specs.Below.{count}
 use Rattle.policy.specs.Mask.{member, nth}
 use borrow.Author.Tests.{eq-eqb, ne-eqb}
 use Rattle.policy.proofs.Truth.{and-both, and-fails-left, and-fails-right}
-use Rattle.policy.proofs.Below.{count-none, count-yes, count-no, count-le, some-none, some-more, first-is, first-none}
+use Rattle.policy.proofs.Below.{count-none, count-yes, count-no, count-le}
+use Rattle.policy.proofs.Loops.{Missed, missed-none, missed-more, missed-all, found-at}
 use Rattle.policy.proofs.mask.nth.Statement.{statement}
 use Rattle.policy.proofs.mask.nth.Tie as tie
 
@@ -19,30 +20,39 @@ abbrev isNth : ℕ → ℕ → ℕ → Bool
 isNth set number j = member set j && eqb (count (j + 1) (member set)) number
 
 abbrev Inv-loop : tie.InvT-loop
-Inv-loop set number n₀ i₀ n i = (n ≡ count i (member set)) × (some i (isNth set number) ≡ false) × (i ≤ 16)
+Inv-loop set number n₀ i₀ n i = (n ≡ count i (member set)) × Missed (isNth set number) 16 i
 
 abbrev μ-loop : tie.MeasureT-loop
 μ-loop set number n₀ i₀ n i = 16 - i
 
+-- the places that the answers look back to: `start-of-has` is the start, seen from `After-has`
+abbrev start-of-has : tie.After-has Inv-loop μ-loop → tie.Start Inv-loop μ-loop
+start-of-has c = c .before .before .before
+
+abbrev start-of-then1 : tie.Then1 Inv-loop μ-loop → tie.Start Inv-loop μ-loop
+start-of-then1 c = start-of-has (c .before)
+
 loop-holds : tie.Need-loop-holds Inv-loop μ-loop
-loop-holds c = (sym (count-none (member (c .args .set))), some-none (isNth (c .args .set) (c .args .number)), omega arith)
+loop-holds c = (sym (count-none (member (c .args .set))), missed-none _ 16)
 
 has-requires : tie.Need-has-requires Inv-loop μ-loop
 has-requires c κs = search needs
 
 add-n : tie.Need-add-n Inv-loop μ-loop
-add-n c = omega (arith, count-le (member (c .before .before .before .before .args .set)) (c .before .before .before .loop .i))
+add-n c = omega (arith, count-le (member (start-of-then1 c .args .set)) (c .before .before .before .loop .i))
 
 returns : tie.Need-returns Inv-loop μ-loop
 unfolding nth
 returns c =
-    let at = c .before .before .before .before in
+    let body = c .before .before .before in
+    let at = body .before in
+    let start = at .before in
     let i = at .loop .i in
-    let s = at .before .args .set in
-    let k = at .before .args .number in
+    let s = start .args .set in
+    let k = start .args .number in
     let here = sym (c .before .before .has .ensures) ∙ c .before .if1 .taken in
     let up = count-yes (member s) i here in
-    sym (first-is (isNth s k) 16 i (search needs) (at .loop .inv .1) (and-both here (eq-eqb (count (i + 1) (member s)) k (omega (arith, up)))))
+    found-at (isNth s k) 16 i (at .loop .inv .1) (body .loop-test .taken) (and-both here (eq-eqb (count (i + 1) (member s)) k (omega (arith, up))))
 
 add-i : tie.Need-add-i Inv-loop μ-loop
 add-i c = search needs
@@ -52,28 +62,30 @@ loop-less c = search needs
 
 loop-again : tie.Need-loop-again Inv-loop μ-loop
 loop-again c =
-    let i = c .before .before .before .loop .i in
-    let s = c .before .before .before .before .args .set in
-    let k = c .before .before .before .before .args .number in
+    let body = c .before .before in
+    let loop = body .before in
+    let start = loop .before in
+    let i = loop .loop .i in
+    let s = start .args .set in
+    let k = start .args .number in
     let at = sym (c .before .has .ensures) in
-    let inv = c .before .before .before .loop .inv in
+    let inv = loop .loop .inv in
     ⊎-elim
     (λ w.
     let up = count-yes (member s) i (at ∙ w .0 .taken) in (
       w .2 ∙ omega (arith, up),
-      some-more (isNth s k) i (inv .1) (and-fails-right (member s i) _ (ne-eqb (count (i + 1) (member s)) k (λ e. w .1 .left (omega (arith, up, e))))),
-      omega arith,
+      missed-more (isNth s k) 16 i (inv .1) (body .loop-test .taken) (and-fails-right (member s i) _ (ne-eqb (count (i + 1) (member s)) k (λ e. w .1 .left (omega (arith, up, e))))),
     ))
     (λ w.
     let out = at ∙ w .0 .left in
-    (w .1 ∙ omega (arith, count-no (member s) i out), some-more (isNth s k) i (inv .1) (and-fails-left (member s i) _ out), omega arith))
+    (w .1 ∙ omega (arith, count-no (member s) i out), missed-more (isNth s k) 16 i (inv .1) (body .loop-test .taken) (and-fails-left (member s i) _ out)))
     (c .if1 .came)
 
 returns-2 : tie.Need-returns-2 Inv-loop μ-loop
 unfolding nth
 returns-2 c =
-    let end : c .before .loop .i ≡ 16 = omega arith in
-    sym (first-none (isNth (c .before .before .args .set) (c .before .before .args .number)) 16 (rw end at (c .before .loop .inv .1)))
+    let loop = c .before in
+    missed-all _ 16 (loop .loop .i) (loop .loop .inv .1) (c .loop-test .left)
 
 pub nth-spec : {M : Type 1} → statement M
 nth-spec =

@@ -1,6 +1,6 @@
 -- `policy::mask::without` meets its contract: the part is added and then taken away.
 -- Assumes nothing.
-use Rattle.policy.proofs.Sets.{without-is}
+use Rattle.policy.proofs.Masks.{without-is}
 use Rattle.policy.proofs.mask.without.Statement.{statement}
 use Rattle.policy.proofs.mask.without.Tie as tie
 

@@ -3,7 +3,7 @@
 use mathlib.Core.Path.{ap, _∙_}
 use borrow.Author.Needs.{needs}
 use Rattle.policy.specs.Mask.{size}
-use Rattle.policy.proofs.OrderSets.{above-size}
+use Rattle.policy.proofs.Orders.{above-size}
 use Rattle.policy.proofs.order.above_in.Statement.{statement}
 use Rattle.policy.proofs.order.above_in.Tie as tie
 
@@ -14,7 +14,9 @@ size-requires : tie.Need-size-requires
 size-requires c κs = search needs
 
 returns : tie.Need-returns
-returns c = c .size .ensures ∙ ap size (c .before .above-set .ensures) ∙ above-size (c .before .before .args .rows) (c .before .before .args .class)
+returns c =
+    let start = c .before .before in
+    c .size .ensures ∙ ap size (c .before .above-set .ensures) ∙ above-size (start .args .rows) (start .args .class)
 
 pub above-in-spec : {M : Type 1} → statement M
 above-in-spec = tie.close (tie.spec above-set-requires size-requires returns)

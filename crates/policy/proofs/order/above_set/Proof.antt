@@ -3,7 +3,7 @@
 use mathlib.Core.Path.{ap₂, _∙_}
 use borrow.Author.Needs.{needs}
 use Rattle.policy.specs.Mask.{difference}
-use Rattle.policy.proofs.OrderSets.{above-is}
+use Rattle.policy.proofs.Orders.{above-is}
 use Rattle.policy.proofs.order.above_set.Statement.{statement}
 use Rattle.policy.proofs.order.above_set.Tie as tie
 
@@ -17,7 +17,9 @@ without-requires : tie.Need-without-requires
 without-requires c κs = search needs
 
 returns : tie.Need-returns
-returns c = c .without .ensures ∙ ap₂ difference (c .before .before .row-of .ensures) (c .before .class-mask .ensures) ∙ above-is (c .before .before .before .args .rows) (c .before .before .before .args .class)
+returns c =
+    let start = c .before .before .before in
+    c .without .ensures ∙ ap₂ difference (c .before .before .row-of .ensures) (c .before .class-mask .ensures) ∙ above-is (start .args .rows) (start .args .class)
 
 pub above-set-spec : {M : Type 1} → statement M
 above-set-spec = tie.close (tie.spec row-of-requires class-mask-requires without-requires returns)

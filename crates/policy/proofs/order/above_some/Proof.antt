@@ -13,8 +13,8 @@ use Rattle.policy.specs.Mask.{member}
 use Rattle.policy.specs.Order.{strictlyIn, aboveSome}
 use Rattle.policy.proofs.Truth.{or-false}
 use Rattle.policy.proofs.Below.{some-none, some-step}
-use Rattle.policy.proofs.Sets.{member-zero, member-or, is-setOf}
-use Rattle.policy.proofs.OrderSets.{member-above}
+use Rattle.policy.proofs.Masks.{member-zero, member-or, is-setOf}
+use Rattle.policy.proofs.Orders.{member-above}
 use Rattle.policy.proofs.order.above_some.Statement.{statement}
 use Rattle.policy.proofs.order.above_some.Tie as tie
 
@@ -45,14 +45,16 @@ loop-less c = search needs
 
 loop-again : tie.Need-loop-again Inv-loop μ-loop
 loop-again c =
-    let at = c .before .before .before in
-    let rows = at .before .args .rows in
-    let set = at .before .args .set in
+    let has = c .before in
+    let at = has .before .before in
+    let start = at .before in
+    let rows = start .args .rows in
+    let set = start .args .set in
     let k = at .loop .k in
     let found = at .loop .found in
     ⊎-elim
     (λ w.
-    let inside = sym (c .before .has .ensures) ∙ w .0 .taken in (
+    let inside = sym (has .has .ensures) ∙ w .0 .taken in (
       rw (w .2) (or-lt 16 found (w .1 .result) (at .loop .inv .0) (search needs)),
       λ j l.
           ap (λ (x : ℕ). member x j) (w .2)
@@ -63,7 +65,7 @@ loop-again c =
       omega arith,
     ))
     (λ w.
-    let outside = sym (c .before .has .ensures) ∙ w .0 .left in (
+    let outside = sym (has .has .ensures) ∙ w .0 .left in (
       rw (w .1) (at .loop .inv .0),
       λ j l.
           ap (λ (x : ℕ). member x j) (w .1)
@@ -77,8 +79,9 @@ returns : tie.Need-returns Inv-loop μ-loop
 unfolding aboveSome
 returns c =
     let at = c .before in
+    let start = at .before in
     let end : at .loop .k ≡ 16 = omega arith in
-    is-setOf (λ j. some 16 (over (at .before .args .rows) (at .before .args .set) j)) (at .loop .found) (at .loop .inv .0) (rw end at (at .loop .inv .1))
+    is-setOf (λ j. some 16 (over (start .args .rows) (start .args .set) j)) (at .loop .found) (at .loop .inv .0) (rw end at (at .loop .inv .1))
 
 pub above-some-spec : {M : Type 1} → statement M
 above-some-spec =

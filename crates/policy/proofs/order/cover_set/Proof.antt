@@ -4,7 +4,7 @@ use mathlib.Core.Path.{ap, ap₂, _∙_}
 use borrow.Author.Needs.{needs}
 use Rattle.policy.specs.Mask.{difference}
 use Rattle.policy.specs.Order.{aboveSome}
-use Rattle.policy.proofs.OrderSets.{covers-are}
+use Rattle.policy.proofs.Orders.{covers-are}
 use Rattle.policy.proofs.order.cover_set.Statement.{statement}
 use Rattle.policy.proofs.order.cover_set.Tie as tie
 
@@ -19,11 +19,12 @@ without-requires c κs = search needs
 
 returns : tie.Need-returns
 returns c =
-    let rows = c .before .before .before .args .rows in
+    let start = c .before .before .before in
+    let rows = start .args .rows in
     let above = c .before .before .above-set .ensures in
     c .without .ensures
     ∙ ap₂ difference above (c .before .above-some .ensures ∙ ap (aboveSome rows) above)
-    ∙ covers-are rows (c .before .before .before .args .class)
+    ∙ covers-are rows (start .args .class)
 
 pub cover-set-spec : {M : Type 1} → statement M
 cover-set-spec =

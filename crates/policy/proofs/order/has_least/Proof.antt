@@ -14,7 +14,9 @@ least-in-requires c κs = search needs
 
 returns : tie.Need-returns
 unfolding leastIn hasLeast
-returns c = ap (λ (k : ℕ). ltb k 16) (c .least-in .ensures) ∙ first-some (leastAt (c .before .args .classes) (c .before .args .rows)) 16
+returns c =
+    let start = c .before in
+    ap (λ (k : ℕ). ltb k 16) (c .least-in .ensures) ∙ first-some (leastAt (start .args .classes) (start .args .rows)) 16
 
 pub has-least-spec : {M : Type 1} → statement M
 has-least-spec = tie.close (tie.spec least-in-requires returns)

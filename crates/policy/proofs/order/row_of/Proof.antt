@@ -19,9 +19,10 @@ returns c = search needs
 
 returns-2 : tie.Need-returns-2
 returns-2 c =
-    let rows = c .before .args .t1 in
+    let start = c .before in
+    let rows = start .args .t1 in
     let long : length rows ≡ 16 = search needs in
-    let past : length rows ≤ c .before .args .class = omega arith in
+    let past : length rows ≤ start .args .class = omega arith in
     sym (List·getD-eq-default rows 0 past)
 
 pub row-of-spec : {M : Type 1} → statement M

@@ -1,26 +1,21 @@
 -- `policy::order::rows_fit` meets its contract. The invariant: the test passes at every number below `i`.
 -- Assumes nothing.
-use mathlib.Core.Path.{_≡_, sym, _∙_}
-use mathlib.Core.Bool.{Bool, true}
-use Prim.Native.Nat.{ℕ, _-_, _≤_, _<_}
-use native.Mathlib.Omega.{arith}
+use Prim.Native.Nat.{_-_}
 use borrow.Author.Needs.{needs}
 use lib.ListN.{getD}
-use Rattle.policy.specs.Below.{every}
 use Rattle.policy.specs.Order.{rowFits, rowsFit}
-use Rattle.policy.proofs.Truth.{not-true, not-not}
-use Rattle.policy.proofs.Below.{every-none, every-more, every-fails}
+use Rattle.policy.proofs.Loops.{Passed, passed-none, passed-all, goes-on, stops}
 use Rattle.policy.proofs.order.rows_fit.Statement.{statement}
 use Rattle.policy.proofs.order.rows_fit.Tie as tie
 
 abbrev Inv-loop : tie.InvT-loop
-Inv-loop classes rows i₀ i = (every i (λ k. rowFits classes k (getD rows k 0)) ≡ true) × (i ≤ 16)
+Inv-loop classes rows i₀ i = Passed (λ k. rowFits classes k (getD rows k 0)) 16 i
 
 abbrev μ-loop : tie.MeasureT-loop
 μ-loop classes rows i₀ i = 16 - i
 
 loop-holds : tie.Need-loop-holds Inv-loop μ-loop
-loop-holds c = (every-none _, omega arith)
+loop-holds c = passed-none _ 16
 
 mul-row-fits : tie.Need-mul-row-fits Inv-loop μ-loop
 mul-row-fits c = search needs
@@ -33,10 +28,7 @@ row-fits-requires c κs = search needs
 
 returns : tie.Need-returns Inv-loop μ-loop
 unfolding rowsFit
-returns c =
-    let test : ℕ → Bool = λ k. rowFits (c .before .before .before .before .args .classes) k (getD (c .before .before .before .before .args .t2) k 0) in
-    let below : c .before .before .before .loop .i < 16 = search needs in
-    sym (every-fails test 16 (c .before .before .before .loop .i) below (sym (c .before .row-fits .ensures) ∙ not-true _ (c .if1 .taken)))
+returns c = let body = c .before .before in stops _ 16 (body .before .loop .i) (body .loop-test .taken) (c .before .row-fits .ensures) (c .if1 .taken)
 
 add-i : tie.Need-add-i Inv-loop μ-loop
 add-i c = search needs
@@ -45,15 +37,14 @@ loop-less : tie.Need-loop-less Inv-loop μ-loop
 loop-less c = search needs
 
 loop-again : tie.Need-loop-again Inv-loop μ-loop
-loop-again c =
-    let test : ℕ → Bool = λ k. rowFits (c .before .before .before .before .args .classes) k (getD (c .before .before .before .before .args .t2) k 0) in
-    (every-more test (c .before .before .before .loop .i) (c .before .before .before .loop .inv .0) (sym (c .before .row-fits .ensures) ∙ not-not _ (c .if1 .left)), omega arith)
+loop-again c = let body = c .before .before in
+    let loop = body .before in goes-on _ 16 (loop .loop .i) (loop .loop .inv) (body .loop-test .taken) (c .before .row-fits .ensures) (c .if1 .left)
 
 returns-2 : tie.Need-returns-2 Inv-loop μ-loop
 unfolding rowsFit
 returns-2 c =
-    let end : c .before .loop .i ≡ 16 = omega arith in
-    sym (rw end at (c .before .loop .inv .0))
+    let loop = c .before in
+    passed-all _ 16 (loop .loop .i) (loop .loop .inv) (c .loop-test .left)
 
 pub rows-fit-spec : {M : Type 1} → statement M
 rows-fit-spec =

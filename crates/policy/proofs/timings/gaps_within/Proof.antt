@@ -31,7 +31,9 @@ is-within-requires-4 c κs = search needs
 
 returns : tie.Need-returns
 unfolding gapsWithin
-returns c = rw (c .is-within4 .ensures, c .before .is-within3 .ensures, c .before .before .is-within2 .ensures, c .before .before .before .is-within .ensures)
+returns c =
+    let is-within = c .before .before .before in
+    rw (c .is-within4 .ensures, c .before .is-within3 .ensures, c .before .before .is-within2 .ensures, is-within .is-within .ensures)
 
 pub gaps-within-spec : {M : Type 1} → statement M
 gaps-within-spec =

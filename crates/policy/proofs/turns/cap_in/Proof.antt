@@ -1,17 +1,26 @@
 -- `policy::turns::cap_in` meets its contract: a difference of naturals is 0 where it would fall below.
 -- Assumes nothing.
-use mathlib.Core.Path.{ap}
+use mathlib.Core.Path.{_≡_, sym, ap, _∙_}
+use mathlib.Core.Bool.{true}
 use Prim.Native.Nat.{ℕ, _-_}
 use native.Mathlib.Omega.{arith}
 use borrow.Author.Needs.{needs}
-use borrow.Author.Tests.{lt-ltb, le-ltb}
+use Rattle.policy.specs.Order.{isClassIn}
 use Rattle.policy.specs.Turns.{capIn}
+use Rattle.policy.proofs.Truth.{not-true, not-not}
 use Rattle.policy.proofs.turns.cap_in.Statement.{statement}
 use Rattle.policy.proofs.turns.cap_in.Tie as tie
 
+-- the number is a class
+class-here : (c : tie.Else1) → isClassIn (c .before .before .args .classes) (c .before .before .args .class) ≡ true
+class-here c = sym (c .before .is-class .ensures) ∙ not-not _ (c .if1 .left)
+
+is-class-requires : tie.Need-is-class-requires
+is-class-requires c κs = search needs
+
 returns : tie.Need-returns
 unfolding capIn
-returns c = rw (le-ltb _ _ (c .if1 .taken))
+returns c = rw (sym (c .before .is-class .ensures) ∙ not-true _ (c .if1 .taken))
 
 minimums-above-requires : tie.Need-minimums-above-requires
 minimums-above-requires c κs = search needs
@@ -25,15 +34,15 @@ sub-result c = search needs
 returns-2 : tie.Need-returns-2
 unfolding capIn
 returns-2 c =
-    let start = c .before .before .before in
-    rw (lt-ltb (start .args .class) (start .args .classes) (c .before .before .if1 .left)) (ap (λ (m : ℕ). start .args .epoch - m) (c .before .minimums-above .ensures))
+    let test = c .before .before in
+    let start = test .before .before in
+    rw (class-here test) (ap (λ (m : ℕ). start .args .epoch - m) (c .before .minimums-above .ensures))
 
 returns-3 : tie.Need-returns-3
 unfolding capIn
-returns-3 c =
-    let start = c .before .before .before in
-    rw (lt-ltb (start .args .class) (start .args .classes) (c .before .before .if1 .left)) (omega (arith, c .before .minimums-above .ensures))
+returns-3 c = rw (class-here (c .before .before)) (omega (arith, c .before .minimums-above .ensures))
 
 pub cap-in-spec : {M : Type 1} → statement M
 cap-in-spec =
-    tie.close (tie.spec returns minimums-above-requires cast-result sub-result returns-2 returns-3)
+    tie.close
+    (tie.spec is-class-requires returns minimums-above-requires cast-result sub-result returns-2 returns-3)

@@ -1,6 +1,6 @@
 -- `policy::turns::minimums_above` meets its contract. The invariant: the total is the sum below `j`, and each number added to it has 32 bits, so it does not wrap.
 -- Assumes nothing.
-use mathlib.Core.Path.{_≡_, sym, ap, _∙_}
+use mathlib.Core.Path.{_≡_, sym, _∙_}
 use mathlib.Core.Logic.{⊎-elim}
 use mathlib.Core.Bool.{cond}
 use mathlib.Core.List.{List}
@@ -10,10 +10,9 @@ use borrow.Author.Needs.{needs}
 use mir.Syntax.{w32}
 use mir.Val.{Fits}
 use lib.ListN.{getD}
-use Rattle.policy.specs.Below.{sum}
 use Rattle.policy.specs.Order.{strictlyIn}
 use Rattle.policy.specs.Turns.{minimumsAbove}
-use Rattle.policy.proofs.Below.{sum-none, sum-more}
+use Rattle.policy.proofs.Loops.{Summed, summed-none, summed-more, summed-all}
 use Rattle.policy.proofs.turns.minimums_above.Statement.{statement}
 use Rattle.policy.proofs.turns.minimums_above.Tie as tie
 
@@ -22,13 +21,13 @@ abbrev part : List ℕ → List ℕ → ℕ → ℕ → ℕ
 part rows minimums i j = cond (strictlyIn rows i j) (getD minimums j 0) 0
 
 abbrev Inv-loop : tie.InvT-loop
-Inv-loop rows class minimums total₀ j₀ total j = (total ≡ sum j (part rows minimums class)) × (total ≤ j * 4294967296) × (j ≤ 16)
+Inv-loop rows class minimums total₀ j₀ total j = Summed (part rows minimums class) 16 total j × (total ≤ j * 4294967296)
 
 abbrev μ-loop : tie.MeasureT-loop
 μ-loop rows class minimums total₀ j₀ total j = 16 - j
 
 loop-holds : tie.Need-loop-holds Inv-loop μ-loop
-loop-holds c = (sym (sum-none _), omega arith, omega arith)
+loop-holds c = (summed-none _ 16, omega arith)
 
 strictly-in-requires : tie.Need-strictly-in-requires Inv-loop μ-loop
 strictly-in-requires c κs = search needs
@@ -56,25 +55,25 @@ loop-less c = search needs
 
 loop-again : tie.Need-loop-again Inv-loop μ-loop
 loop-again c =
-    let at = c .before .before .before in
+    let strictly-in = c .before in
+    let body = strictly-in .before in
+    let at = body .before in
+    let start = at .before in
     let j = at .loop .j in
-    let f = part (at .before .args .rows) (at .before .args .t2) (at .before .args .class) in
-    let fits : Fits w32 (getD (at .before .args .t2) j 0) = search needs in
+    let f = part (start .args .rows) (start .args .t2) (start .args .class) in
+    let fits : Fits w32 (getD (start .args .t2) j 0) = search needs in
     ⊎-elim
     (λ w.
-    let here : f j ≡ getD (at .before .args .t2) j 0 = rw (sym (c .before .strictly-in .ensures) ∙ w .0 .taken) in
-    (omega (arith, sum-more f j, here), omega arith, omega arith))
+    let here : f j ≡ getD (start .args .t2) j 0 = rw (sym (strictly-in .strictly-in .ensures) ∙ w .0 .taken) in
+    (summed-more f 16 (at .loop .total) j (at .loop .inv .0) (body .loop-test .taken) (omega (arith, here)), omega arith))
     (λ w.
-    let none : f j ≡ 0 = rw (sym (c .before .strictly-in .ensures) ∙ w .0 .left) in
-    (omega (arith, sum-more f j, none), omega arith, omega arith))
+    let none : f j ≡ 0 = rw (sym (strictly-in .strictly-in .ensures) ∙ w .0 .left) in
+    (summed-more f 16 (at .loop .total) j (at .loop .inv .0) (body .loop-test .taken) (omega (arith, none)), omega arith))
     (c .if1 .came)
 
 returns : tie.Need-returns Inv-loop μ-loop
 unfolding minimumsAbove
-returns c =
-    let at = c .before in
-    let end : at .loop .j ≡ 16 = omega arith in
-    at .loop .inv .0 ∙ ap (λ (k : ℕ). sum k (part (at .before .args .rows) (at .before .args .t2) (at .before .args .class))) end
+returns c = let at = c .before in summed-all _ 16 (at .loop .total) (at .loop .j) (at .loop .inv .0) (c .loop-test .left)
 
 pub minimums-above-spec : {M : Type 1} → statement M
 minimums-above-spec =

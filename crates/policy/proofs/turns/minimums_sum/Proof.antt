@@ -1,26 +1,25 @@
 -- `policy::turns::minimums_sum` meets its contract. The invariant: the total is the sum below `i`, and each number added to it has 32 bits, so it does not wrap.
 -- Assumes nothing.
-use mathlib.Core.Path.{_≡_, sym, ap, _∙_}
-use Prim.Native.Nat.{ℕ, _-_, _*_, _≤_}
+use mathlib.Core.Path.{refl}
+use Prim.Native.Nat.{_-_, _*_, _≤_}
 use native.Mathlib.Omega.{arith}
 use borrow.Author.Needs.{needs}
 use mir.Syntax.{w32}
 use mir.Val.{Fits}
 use lib.ListN.{getD}
-use Rattle.policy.specs.Below.{sum}
 use Rattle.policy.specs.Turns.{minimumsSum}
-use Rattle.policy.proofs.Below.{sum-none, sum-more}
+use Rattle.policy.proofs.Loops.{Summed, summed-none, summed-more, summed-all}
 use Rattle.policy.proofs.turns.minimums_sum.Statement.{statement}
 use Rattle.policy.proofs.turns.minimums_sum.Tie as tie
 
 abbrev Inv-loop : tie.InvT-loop
-Inv-loop minimums total₀ i₀ total i = (total ≡ sum i (λ k. getD minimums k 0)) × (total ≤ i * 4294967296) × (i ≤ 16)
+Inv-loop minimums total₀ i₀ total i = Summed (λ k. getD minimums k 0) 16 total i × (total ≤ i * 4294967296)
 
 abbrev μ-loop : tie.MeasureT-loop
 μ-loop minimums total₀ i₀ total i = 16 - i
 
 loop-holds : tie.Need-loop-holds Inv-loop μ-loop
-loop-holds c = (sym (sum-none _), omega arith, omega arith)
+loop-holds c = (summed-none _ 16, omega arith)
 
 mul-total : tie.Need-mul-total Inv-loop μ-loop
 mul-total c = search needs
@@ -45,15 +44,12 @@ loop-less c = search needs
 loop-again : tie.Need-loop-again Inv-loop μ-loop
 loop-again c =
     let at = c .before in
-    let f : ℕ → ℕ = λ k. getD (at .before .args .t1) k 0 in
     let fits : Fits w32 (getD (at .before .args .t1) (at .loop .i) 0) = search needs in
-    (omega (arith, sum-more f (at .loop .i)), omega arith, omega arith)
+    (summed-more _ 16 (at .loop .total) (at .loop .i) (at .loop .inv .0) (search needs) refl, omega arith)
 
 returns : tie.Need-returns Inv-loop μ-loop
 unfolding minimumsSum
-returns c =
-    let end : c .before .loop .i ≡ 16 = omega arith in
-    c .before .loop .inv .0 ∙ ap (λ (k : ℕ). sum k (λ j. getD (c .before .before .args .t1) j 0)) end
+returns c = let at = c .before in summed-all _ 16 (at .loop .total) (at .loop .i) (at .loop .inv .0) (c .loop-test .left)
 
 pub minimums-sum-spec : {M : Type 1} → statement M
 minimums-sum-spec =

@@ -19,9 +19,10 @@ returns c = search needs
 
 returns-2 : tie.Need-returns-2
 returns-2 c =
-    let numbers = c .before .args .t1 in
+    let start = c .before in
+    let numbers = start .args .t1 in
     let long : length numbers ≡ 16 = search needs in
-    let past : length numbers ≤ c .before .args .class = omega arith in
+    let past : length numbers ≤ start .args .class = omega arith in
     sym (List·getD-eq-default numbers 0 past)
 
 pub number-of-spec : {M : Type 1} → statement M

@@ -1,10 +1,16 @@
 -- `scheduler::driving::activate` meets its contract: the four stores are those of the definition.
 -- Assumes nothing.
+use mathlib.Core.Path.{sym, subst}
+use Prim.Native.Nat.{ℕ, _<_}
+use native.Mathlib.Omega.{arith}
 use borrow.Author.Needs.{needs}
 use Rattle.scheduler.specs.Wire.{activated}
-use Rattle.scheduler.specs.Word.{kindOf, bankOf}
 use Rattle.scheduler.proofs.driving.activate.Statement.{statement}
 use Rattle.scheduler.proofs.driving.activate.Tie as tie
+
+-- the bank is one of the eight
+bank-here : (c : tie.After-bank-of) → c .bank-of .result < 8
+bank-here c = subst (λ (k : ℕ). k < 8) (sym (c .bank-of .ensures)) (c .before .before .before .pre .2)
 
 add-column : tie.Need-add-column
 add-column c = search needs
@@ -18,12 +24,17 @@ add-response c = search needs
 cast-response : tie.Need-cast-response
 cast-response c = search needs
 
+bank-of-requires : tie.Need-bank-of-requires
+bank-of-requires c κs = search needs
+
 cast-bank : tie.Need-cast-bank
-cast-bank c = search needs
+cast-bank c = omega (arith, bank-here c)
+
+kind-of-requires : tie.Need-kind-of-requires
+kind-of-requires c κs = search needs
 
 activate-at-requires : tie.Need-activate-at-requires
-unfolding kindOf
-activate-at-requires c κs = (c .before .before .pre .1, c .before .before .pre .3)
+activate-at-requires c κs = let start = c .before .before .before .before in (start .pre .1, subst (λ (k : ℕ). k < 2) (sym (c .kind-of .ensures)) (start .pre .3))
 
 mul-columns : tie.Need-mul-columns
 mul-columns c = search needs
@@ -38,15 +49,14 @@ element-write-responses : tie.Need-element-write-responses
 element-write-responses c = search needs
 
 mul-banks : tie.Need-mul-banks
-mul-banks c = search needs
+mul-banks c = omega (arith, bank-here (c .before .before))
 
 element-write-banks : tie.Need-element-write-banks
-unfolding bankOf
-element-write-banks c = c .before .before .before .pre .2
+element-write-banks c = bank-here (c .before .before)
 
 returns : tie.Need-returns
-unfolding activated kindOf bankOf
-returns c = rw (c .activate-at .ensures)
+unfolding activated
+returns c = rw (c .activate-at .ensures, c .before .kind-of .ensures, c .before .before .bank-of .ensures)
 
 pub activate-spec : {M : Type 1} → statement M
 activate-spec =
@@ -56,7 +66,9 @@ activate-spec =
     cast-column
     add-response
     cast-response
+    bank-of-requires
     cast-bank
+    kind-of-requires
     activate-at-requires
     mul-columns
     element-write-columns

@@ -1,62 +1,79 @@
 -- `scheduler::driving::gaps_met` meets its contract: the definition, with what `gap_met` promises; a gap is at most the dead time.
 -- Assumes nothing.
-use Prim.Native.Nat.{_+_, _*_, _%_, _<_}
+use mathlib.Core.Path.{sym, subst}
+use Prim.Native.Nat.{ℕ, _+_, _*_, _<_}
 use native.Mathlib.Omega.{arith}
 use borrow.Author.Needs.{needs}
 use Rattle.scheduler.specs.Wire.{gapsMetBy}
+use Rattle.scheduler.proofs.Wire.{kind-small}
 use Rattle.scheduler.proofs.driving.gaps_met.Statement.{statement}
 use Rattle.scheduler.proofs.driving.gaps_met.Tie as tie
 
+-- a kind is 0 or 1
+first-kind : (c : tie.After-activate-kind) → c .activate-kind .result < 2
+first-kind c = subst (λ (k : ℕ). k < 2) (sym (c .activate-kind .ensures)) (kind-small (c .before .args .last))
+
+second-kind : (c : tie.After-activate-kind2) → c .activate-kind2 .result < 2
+second-kind c = subst (λ (k : ℕ). k < 2) (sym (c .activate-kind2 .ensures)) (kind-small (c .before .before .args .of-bank))
+
+activate-kind-requires : tie.Need-activate-kind-requires
+activate-kind-requires c κs = search needs
+
 mul-after : tie.Need-mul-after
-mul-after c = search needs
+mul-after c = omega (arith, first-kind c)
 
 add-after : tie.Need-add-after
-add-after c = search needs
+add-after c = omega (arith, first-kind c)
 
 cast-after : tie.Need-cast-after
-cast-after c = search needs
+cast-after c = omega (arith, first-kind c)
+
+activate-kind-requires-2 : tie.Need-activate-kind-requires-2
+activate-kind-requires-2 c κs = search needs
 
 cast-same : tie.Need-cast-same
-cast-same c = search needs
+cast-same c = omega (arith, second-kind c)
 
 mul-gap-met : tie.Need-mul-gap-met
-mul-gap-met c = search needs
+mul-gap-met c = omega (arith, first-kind (c .before))
 
 element-copy-out-gap-met : tie.Need-element-copy-out-gap-met
-element-copy-out-gap-met c = search needs
+element-copy-out-gap-met c = omega (arith, first-kind (c .before))
 
 gap-met-requires : tie.Need-gap-met-requires
 gap-met-requires c κs =
-    let start = c .before in
+    let kinds = c .before .before in
+    let start = kinds .before in
     let laws = start .pre .0 in
-    let at : 2 * (start .args .last % 2) + start .args .kind < 4 = omega arith in
-    (omega (arith, laws .gaps-bounds (2 * (start .args .last % 2) + start .args .kind) at .1, laws .dead-bounds .1), start .pre .2)
+    let at : 2 * kinds .activate-kind .result + start .args .kind < 4 = omega (arith, first-kind kinds) in
+    (omega (arith, laws .gaps-bounds (2 * kinds .activate-kind .result + start .args .kind) at .1, laws .dead-bounds .1), start .pre .2)
 
 mul-gap-met-2 : tie.Need-mul-gap-met-2
-mul-gap-met-2 c = search needs
+mul-gap-met-2 c = omega (arith, second-kind (c .before .before))
 
 element-copy-out-gap-met-2 : tie.Need-element-copy-out-gap-met-2
-element-copy-out-gap-met-2 c = search needs
+element-copy-out-gap-met-2 c = second-kind (c .before .before)
 
 gap-met-requires-2 : tie.Need-gap-met-requires-2
 gap-met-requires-2 c κs =
-    let start = c .before .before .before in
+    let same = c .before .before .before in
+    let start = same .before .before in
     let laws = start .pre .0 in
-    let bank = start .args .of-bank in
-    let at : bank % 2 < 2 = omega arith in
-    (omega (arith, laws .bank-bounds (bank % 2) at .1, laws .dead-bounds .1), start .pre .2)
+    (omega (arith, laws .bank-bounds (same .activate-kind2 .result) (second-kind same) .1, laws .dead-bounds .1), start .pre .2)
 
 returns : tie.Need-returns
 unfolding gapsMetBy
-returns c = rw (c .gap-met2 .ensures, c .before .before .gap-met .ensures)
+returns c = let same = c .before .before .before .before in rw (c .gap-met2 .ensures, c .before .before .gap-met .ensures, same .activate-kind2 .ensures, same .before .activate-kind .ensures)
 
 pub gaps-met-spec : {M : Type 1} → statement M
 gaps-met-spec =
     tie.close
     (tie.spec
+    activate-kind-requires
     mul-after
     add-after
     cast-after
+    activate-kind-requires-2
     cast-same
     mul-gap-met
     element-copy-out-gap-met

@@ -12,33 +12,47 @@ use Rattle.policy.specs.Mask.{member, nth}
 use Rattle.policy.specs.Order.{flowsIn, strictlyIn, aboveIn}
 use Rattle.policy.proofs.Truth.{not-true, not-not}
 use Rattle.policy.proofs.Below.{count-le}
-use Rattle.policy.proofs.Sets.{member-small}
-use Rattle.scheduler.specs.Traversal.{moved, movedPointer, named}
-use Rattle.scheduler.specs.Lookahead.{reaches}
-use Rattle.scheduler.proofs.Climbing.{goesOn, reach-here, reach-fails, reach-on, on-covers, reach-enough}
+use Rattle.policy.proofs.Masks.{member-small}
+use Rattle.scheduler.specs.Traversal.{movedPointer, named}
+use Rattle.scheduler.specs.Lookahead.{Ahead, lookingAhead, goesOn, reaches}
+use Rattle.scheduler.proofs.LookaheadLaws.{reach-here, reach-fails, reach-on, on-covers, reach-enough}
 use Rattle.scheduler.proofs.lookahead.reaches.Statement.{statement}
 use Rattle.scheduler.proofs.lookahead.reaches.Tie as tie
 
 abbrev Inv-loop : tie.InvT-loop
-Inv-loop rows covers left pointers owner from class₀ class = (class < 16) × (reaches 16 rows covers left pointers owner from ≡ reaches 16 rows covers left pointers owner class)
+Inv-loop rows covers left pointers owner from class₀ class =
+    (class < 16) × (reaches 16 (lookingAhead rows covers left pointers) owner from ≡ reaches 16 (lookingAhead rows covers left pointers) owner class)
 
 abbrev μ-loop : tie.MeasureT-loop
 μ-loop rows covers left pointers owner from class₀ class = aboveIn rows class
 
+-- what the function was lent
+abbrev ahead-of : tie.Start Inv-loop μ-loop → Ahead
+ahead-of s = lookingAhead (s .args .rows .now) (s .args .covers .now) (s .args .left .now) (s .args .pointers .now)
+
+-- the loop's head, from the end of its body
+abbrev at-loop : tie.After-nth Inv-loop μ-loop → tie.At-loop Inv-loop μ-loop
+at-loop c = c .before .before .before .before .before .before .before .before .before .before
+
 -- after a turn of the loop: it went on from a class that is not the owner, to the cover that the class's pointer names
-apart : (c : tie.After-nth Inv-loop μ-loop) → eqb (c .before .before .before .before .before .before .before .before .before .before .loop .class) (c .before .before .before .before .before .before .before .before .before .before .before .args .owner) ≡ false
-apart c = ne-eqb (c .before .before .before .before .before .before .before .before .before .before .loop .class) (c .before .before .before .before .before .before .before .before .before .before .before .args .owner) (c .before .before .before .before .before .before .before .before .before .loop-test .taken)
+apart : (c : tie.After-nth Inv-loop μ-loop) → eqb (at-loop c .loop .class) (at-loop c .before .args .owner) ≡ false
+apart c = ne-eqb (at-loop c .loop .class) (at-loop c .before .args .owner) (c .before .before .before .before .before .before .before .before .before .loop-test .taken)
 
-on : (c : tie.After-nth Inv-loop μ-loop) → goesOn (c .before .before .before .before .before .before .before .before .before .before .before .args .rows .now) (c .before .before .before .before .before .before .before .before .before .before .before .args .covers .now) (c .before .before .before .before .before .before .before .before .before .before .before .args .left .now) (c .before .before .before .before .before .before .before .before .before .before .before .args .pointers .now) (c .before .before .before .before .before .before .before .before .before .before .before .args .owner) (c .before .before .before .before .before .before .before .before .before .before .loop .class) ≡ true
-unfolding flowsIn
-on c = sym (ap (λ (b : Bool). b && eqb (getD (c .before .before .before .before .before .before .before .before .before .before .before .args .left .now) (c .before .before .before .before .before .before .before .before .before .before .loop .class) 0) 0) (c .before .before .before .before .before .before .before .has .ensures)) ∙ not-not _ (c .before .before .before .before .before .if1 .left)
+on : (c : tie.After-nth Inv-loop μ-loop) → goesOn (ahead-of (at-loop c .before)) (at-loop c .before .args .owner) (at-loop c .loop .class) ≡ true
+unfolding goesOn flowsIn
+on c =
+    let at = at-loop c in
+    sym (ap (λ (b : Bool). b && eqb (getD (at .before .args .left .now) (at .loop .class) 0) 0) (c .before .before .before .before .before .before .before .has .ensures))
+    ∙ not-not _ (c .before .before .before .before .before .if1 .left)
 
-next : (c : tie.After-nth Inv-loop μ-loop) → c .nth .result ≡ named (c .before .before .before .before .before .before .before .before .before .before .before .args .covers .now) (c .before .before .before .before .before .before .before .before .before .before .before .args .pointers .now) (c .before .before .before .before .before .before .before .before .before .before .loop .class)
+next : (c : tie.After-nth Inv-loop μ-loop) → c .nth .result ≡ named (at-loop c .before .args .covers .now) (at-loop c .before .args .pointers .now) (at-loop c .loop .class)
 unfolding named movedPointer
-next c = c .nth .ensures ∙ ap (nth (getD (c .before .before .before .before .before .before .before .before .before .before .before .args .covers .now) (c .before .before .before .before .before .before .before .before .before .before .loop .class) 0)) (c .before .before .moved .ensures)
+next c = c .nth .ensures ∙ ap (nth (getD (at-loop c .before .args .covers .now) (at-loop c .loop .class) 0)) (c .before .before .moved .ensures)
 
-covered : (c : tie.After-nth Inv-loop μ-loop) → member (getD (c .before .before .before .before .before .before .before .before .before .before .before .args .covers .now) (c .before .before .before .before .before .before .before .before .before .before .loop .class) 0) (named (c .before .before .before .before .before .before .before .before .before .before .before .args .covers .now) (c .before .before .before .before .before .before .before .before .before .before .before .args .pointers .now) (c .before .before .before .before .before .before .before .before .before .before .loop .class)) ≡ true
-covered c = on-covers (c .before .before .before .before .before .before .before .before .before .before .before .args .rows .now) (c .before .before .before .before .before .before .before .before .before .before .before .args .covers .now) (c .before .before .before .before .before .before .before .before .before .before .before .args .left .now) (c .before .before .before .before .before .before .before .before .before .before .before .args .pointers .now) (c .before .before .before .before .before .before .before .before .before .before .before .args .owner) (c .before .before .before .before .before .before .before .before .before .before .before .pre .0) (c .before .before .before .before .before .before .before .before .before .before .loop .class) (apart c) (on c)
+covered : (c : tie.After-nth Inv-loop μ-loop) → member (getD (at-loop c .before .args .covers .now) (at-loop c .loop .class) 0) (named (at-loop c .before .args .covers .now) (at-loop c .before .args .pointers .now) (at-loop c .loop .class)) ≡ true
+covered c =
+    let start = at-loop c .before in
+    on-covers (ahead-of start) (start .args .owner) (start .pre .0) (at-loop c .loop .class) (apart c) (on c)
 
 loop-holds : tie.Need-loop-holds Inv-loop μ-loop
 loop-holds c = (c .pre .1, refl)
@@ -59,15 +73,15 @@ element-copy-out-spent : tie.Need-element-copy-out-spent Inv-loop μ-loop
 element-copy-out-spent c = search needs
 
 returns : tie.Need-returns Inv-loop μ-loop
-unfolding flowsIn
+unfolding goesOn flowsIn
 returns c =
     let at = c .before .before .before .before .before in
-    let a = at .before .args in
-    let apart : eqb (at .loop .class) (a .owner) ≡ false = ne-eqb (at .loop .class) (a .owner) (c .before .before .before .before .loop-test .taken) in
-    let stops : goesOn (a .rows .now) (a .covers .now) (a .left .now) (a .pointers .now) (a .owner) (at .loop .class) ≡ false =
-    sym (ap (λ (b : Bool). b && eqb (getD (a .left .now) (at .loop .class) 0) 0) (c .before .before .has .ensures)) ∙ not-true _ (c .if1 .taken)
+    let start = at .before in
+    let apart : eqb (at .loop .class) (start .args .owner) ≡ false = ne-eqb (at .loop .class) (start .args .owner) (c .before .before .before .before .loop-test .taken) in
+    let stops : goesOn (ahead-of start) (start .args .owner) (at .loop .class) ≡ false =
+    sym (ap (λ (b : Bool). b && eqb (getD (start .args .left .now) (at .loop .class) 0) 0) (c .before .before .has .ensures)) ∙ not-true _ (c .if1 .taken)
     in
-    sym (at .loop .inv .1 ∙ reach-fails (a .rows .now) (a .covers .now) (a .left .now) (a .pointers .now) (a .owner) (at .loop .class) 16 apart stops)
+    sym (at .loop .inv .1 ∙ reach-fails (ahead-of start) (start .args .owner) 16 (at .loop .class) apart stops)
 
 mul-moved : tie.Need-mul-moved Inv-loop μ-loop
 mul-moved c = search needs
@@ -94,31 +108,29 @@ nth-requires : tie.Need-nth-requires Inv-loop μ-loop
 nth-requires c κs = search needs
 
 loop-less : tie.Need-loop-less Inv-loop μ-loop
-loop-less c =
-    let s = (c .before .before .before .before .before .before .before .before .before .before .before) in
-    rw (next c) (s .pre .0 .falls (c .before .before .before .before .before .before .before .before .before .before .loop .class) _ (covered c))
+loop-less c = rw (next c) (at-loop c .before .pre .0 .falls (at-loop c .loop .class) _ (covered c))
 
 loop-again : tie.Need-loop-again Inv-loop μ-loop
 unfolding aboveIn
 loop-again c =
-    let at = c .before .before .before .before .before .before .before .before .before .before in
-    let a = at .before .args in
+    let at = at-loop c in
+    let start = at .before in
+    let a = start .args in
     let class = at .loop .class in
-    let below : aboveIn (a .rows .now) (named (a .covers .now) (a .pointers .now) class) ≤ 15 =
-    omega (arith, at .before .pre .0 .falls class _ (covered c), count-le (strictlyIn (a .rows .now) class) 16)
-    in
+    let then = named (a .covers .now) (a .pointers .now) class in
+    let below : aboveIn (a .rows .now) then ≤ 15 = omega (arith, start .pre .0 .falls class _ (covered c), count-le (strictlyIn (a .rows .now) class) 16) in
     rw (next c) (
-      member-small (getD (a .covers .now) class 0) (named (a .covers .now) (a .pointers .now) class) (at .before .pre .0 .sets class) (covered c),
+      member-small (getD (a .covers .now) class 0) then (start .pre .0 .sets class) (covered c),
       at .loop .inv .1
-          ∙ reach-on (a .rows .now) (a .covers .now) (a .left .now) (a .pointers .now) (a .owner) class 15 (apart c) (on c)
-          ∙ reach-enough (a .rows .now) (a .covers .now) (a .left .now) (a .pointers .now) (a .owner) (at .before .pre .0) 15 (named (a .covers .now) (a .pointers .now) class) below,
+          ∙ reach-on (ahead-of start) (a .owner) 15 class (apart c) (on c)
+          ∙ reach-enough (ahead-of start) (a .owner) (start .pre .0) 15 then below,
     )
 
 returns-2 : tie.Need-returns-2 Inv-loop μ-loop
 returns-2 c =
     let at = c .before in
-    let a = at .before .args in
-    sym (at .loop .inv .1 ∙ reach-here (a .rows .now) (a .covers .now) (a .left .now) (a .pointers .now) (a .owner) (at .loop .class) 16 (eq-eqb (at .loop .class) (a .owner) (c .loop-test .left)))
+    let start = at .before in
+    sym (at .loop .inv .1 ∙ reach-here (ahead-of start) (start .args .owner) 16 (at .loop .class) (eq-eqb (at .loop .class) (start .args .owner) (c .loop-test .left)))
 
 pub reaches-spec : {M : Type 1} → statement M
 reaches-spec =

@@ -1,15 +1,11 @@
 -- `scheduler::range::banks_in_range` meets its contract. The invariant: the test passes at every number below `bank`.
 -- Assumes nothing.
-use mathlib.Core.Path.{_≡_, sym, _∙_}
-use mathlib.Core.Bool.{Bool, true}
+use mathlib.Core.Bool.{Bool}
 use mathlib.Core.List.{List}
-use Prim.Native.Nat.{ℕ, _-_, _≤_, _<_}
-use native.Mathlib.Omega.{arith}
+use Prim.Native.Nat.{ℕ, _-_}
 use borrow.Author.Needs.{needs}
 use lib.ListN.{getD}
-use Rattle.policy.specs.Below.{every}
-use Rattle.policy.proofs.Truth.{not-true, not-not}
-use Rattle.policy.proofs.Below.{every-none, every-more, every-fails}
+use Rattle.policy.proofs.Loops.{Passed, passed-none, passed-all, goes-on, stops}
 use Rattle.scheduler.specs.Range.{activateInRange}
 use Rattle.scheduler.proofs.range.banks_in_range.Statement.{statement}
 use Rattle.scheduler.proofs.range.banks_in_range.Tie as tie
@@ -19,13 +15,13 @@ abbrev test : ℕ → List ℕ → ℕ → Bool
 test cycle banks b = activateInRange cycle (getD banks b 0)
 
 abbrev Inv-loop : tie.InvT-loop
-Inv-loop cycle banks bank₀ bank = (every bank (test cycle banks) ≡ true) × (bank ≤ 8)
+Inv-loop cycle banks bank₀ bank = Passed (test cycle banks) 8 bank
 
 abbrev μ-loop : tie.MeasureT-loop
 μ-loop cycle banks bank₀ bank = 8 - bank
 
 loop-holds : tie.Need-loop-holds Inv-loop μ-loop
-loop-holds c = (every-none _, omega arith)
+loop-holds c = passed-none _ 8
 
 mul-activate-in-range : tie.Need-mul-activate-in-range Inv-loop μ-loop
 mul-activate-in-range c = search needs
@@ -37,9 +33,7 @@ activate-in-range-requires : tie.Need-activate-in-range-requires Inv-loop μ-loo
 activate-in-range-requires c κs = search needs
 
 returns : tie.Need-returns Inv-loop μ-loop
-returns c =
-    let below : c .before .before .before .before .loop .bank < 8 = search needs in
-    sym (every-fails (test (c .before .before .before .before .before .args .cycle) (c .before .before .before .before .before .args .banks .now)) 8 (c .before .before .before .before .loop .bank) below (sym (c .before .activate-in-range .ensures) ∙ not-true _ (c .if1 .taken)))
+returns c = let body = c .before .before .before in stops _ 8 (body .before .loop .bank) (body .loop-test .taken) (c .before .activate-in-range .ensures) (c .if1 .taken)
 
 add-bank : tie.Need-add-bank Inv-loop μ-loop
 add-bank c = search needs
@@ -48,12 +42,13 @@ loop-less : tie.Need-loop-less Inv-loop μ-loop
 loop-less c = search needs
 
 loop-again : tie.Need-loop-again Inv-loop μ-loop
-loop-again c = (every-more (test (c .before .before .before .before .before .args .cycle) (c .before .before .before .before .before .args .banks .now)) (c .before .before .before .before .loop .bank) (c .before .before .before .before .loop .inv .0) (sym (c .before .activate-in-range .ensures) ∙ not-not _ (c .if1 .left)), omega arith)
+loop-again c = let body = c .before .before .before in
+    let loop = body .before in goes-on _ 8 (loop .loop .bank) (loop .loop .inv) (body .loop-test .taken) (c .before .activate-in-range .ensures) (c .if1 .left)
 
 returns-2 : tie.Need-returns-2 Inv-loop μ-loop
 returns-2 c =
-    let end : c .before .loop .bank ≡ 8 = omega arith in
-    sym (rw end at (c .before .loop .inv .0))
+    let loop = c .before in
+    passed-all _ 8 (loop .loop .bank) (loop .loop .inv) (c .loop-test .left)
 
 pub banks-in-range-spec : {M : Type 1} → statement M
 banks-in-range-spec =

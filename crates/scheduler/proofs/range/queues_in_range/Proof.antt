@@ -1,14 +1,10 @@
 -- `scheduler::range::queues_in_range` meets its contract. The invariant: the test passes at every number below `class`.
 -- Assumes nothing.
-use mathlib.Core.Path.{_≡_, sym, _∙_}
-use mathlib.Core.Bool.{Bool, true}
+use mathlib.Core.Bool.{Bool}
 use mathlib.Core.List.{List}
-use Prim.Native.Nat.{ℕ, _-_, _≤_, _<_}
-use native.Mathlib.Omega.{arith}
+use Prim.Native.Nat.{ℕ, _-_}
 use borrow.Author.Needs.{needs}
-use Rattle.policy.specs.Below.{every}
-use Rattle.policy.proofs.Truth.{not-true, not-not}
-use Rattle.policy.proofs.Below.{every-none, every-more, every-fails}
+use Rattle.policy.proofs.Loops.{Passed, passed-none, passed-all, goes-on, stops}
 use Rattle.scheduler.specs.Range.{queueInRange}
 use Rattle.scheduler.specs.Queue.{headOf, lengthOf}
 use Rattle.scheduler.proofs.range.queues_in_range.Statement.{statement}
@@ -19,13 +15,23 @@ abbrev test : ℕ → List ℕ → List ℕ → List ℕ → ℕ → Bool
 test classes slots heads lengths k = queueInRange classes (record { slots = slots; heads = heads; lengths = lengths }) k
 
 abbrev Inv-loop : tie.InvT-loop
-Inv-loop classes slots heads lengths class₀ class = (every class (test classes slots heads lengths) ≡ true) × (class ≤ 16)
+Inv-loop classes slots heads lengths class₀ class = Passed (test classes slots heads lengths) 16 class
 
 abbrev μ-loop : tie.MeasureT-loop
 μ-loop classes slots heads lengths class₀ class = 16 - class
 
+-- the places that the answers look back to: `in-loop-of-queue-in-range` is `In-loop`, seen from `After-queue-in-range`
+abbrev in-loop-of-queue-in-range : tie.After-queue-in-range Inv-loop μ-loop → tie.In-loop Inv-loop μ-loop
+in-loop-of-queue-in-range c = c .before .before .before
+
+abbrev in-loop-of-then1 : tie.Then1 Inv-loop μ-loop → tie.In-loop Inv-loop μ-loop
+in-loop-of-then1 c = in-loop-of-queue-in-range (c .before)
+
+abbrev in-loop-of-else1 : tie.Else1 Inv-loop μ-loop → tie.In-loop Inv-loop μ-loop
+in-loop-of-else1 c = in-loop-of-queue-in-range (c .before)
+
 loop-holds : tie.Need-loop-holds Inv-loop μ-loop
-loop-holds c = (every-none _, omega arith)
+loop-holds c = passed-none _ 16
 
 mul-queue-in-range : tie.Need-mul-queue-in-range Inv-loop μ-loop
 mul-queue-in-range c = search needs
@@ -44,9 +50,7 @@ queue-in-range-requires c κs = search needs
 
 returns : tie.Need-returns Inv-loop μ-loop
 unfolding queueInRange headOf lengthOf
-returns c =
-    let below : c .before .before .before .before .before .loop .class < 16 = search needs in
-    sym (every-fails (test (c .before .before .before .before .before .before .args .classes) (c .before .before .before .before .before .before .args .slots .now) (c .before .before .before .before .before .before .args .heads .now) (c .before .before .before .before .before .before .args .lengths .now)) 16 (c .before .before .before .before .before .loop .class) below (sym (c .before .queue-in-range .ensures) ∙ not-true _ (c .if1 .taken)))
+returns c = let body = in-loop-of-then1 c in stops _ 16 (body .before .loop .class) (body .loop-test .taken) (c .before .queue-in-range .ensures) (c .if1 .taken)
 
 add-class : tie.Need-add-class Inv-loop μ-loop
 add-class c = search needs
@@ -56,13 +60,14 @@ loop-less c = search needs
 
 loop-again : tie.Need-loop-again Inv-loop μ-loop
 unfolding queueInRange headOf lengthOf
-loop-again c = (every-more (test (c .before .before .before .before .before .before .args .classes) (c .before .before .before .before .before .before .args .slots .now) (c .before .before .before .before .before .before .args .heads .now) (c .before .before .before .before .before .before .args .lengths .now)) (c .before .before .before .before .before .loop .class) (c .before .before .before .before .before .loop .inv .0) (sym (c .before .queue-in-range .ensures) ∙ not-not _ (c .if1 .left)), omega arith)
+loop-again c = let body = in-loop-of-else1 c in
+    let loop = body .before in goes-on _ 16 (loop .loop .class) (loop .loop .inv) (body .loop-test .taken) (c .before .queue-in-range .ensures) (c .if1 .left)
 
 returns-2 : tie.Need-returns-2 Inv-loop μ-loop
 unfolding queueInRange headOf lengthOf
 returns-2 c =
-    let end : c .before .loop .class ≡ 16 = omega arith in
-    sym (rw end at (c .before .loop .inv .0))
+    let loop = c .before in
+    passed-all _ 16 (loop .loop .class) (loop .loop .inv) (c .loop-test .left)
 
 pub queues-in-range-spec : {M : Type 1} → statement M
 queues-in-range-spec =

@@ -1,10 +1,12 @@
--- `scheduler::range::right_word` meets its contract: the definition, with what `sound_word` promises.
+-- `scheduler::range::right_word` meets its contract: the definition, with what the callees promise.
 -- Assumes nothing.
 use borrow.Author.Needs.{needs}
 use Rattle.scheduler.specs.Range.{rightWord}
-use Rattle.scheduler.specs.Word.{classOf}
 use Rattle.scheduler.proofs.range.right_word.Statement.{statement}
 use Rattle.scheduler.proofs.range.right_word.Tie as tie
+
+class-of-requires : tie.Need-class-of-requires
+class-of-requires c κs = search needs
 
 cast-of : tie.Need-cast-of
 cast-of c = search needs
@@ -13,8 +15,8 @@ sound-word-requires : tie.Need-sound-word-requires
 sound-word-requires c κs = search needs
 
 returns : tie.Need-returns
-unfolding rightWord classOf
-returns c = rw (c .sound-word .ensures)
+unfolding rightWord
+returns c = rw (c .sound-word .ensures, c .before .class-of .ensures)
 
 pub right-word-spec : {M : Type 1} → statement M
-right-word-spec = tie.close (tie.spec cast-of sound-word-requires returns)
+right-word-spec = tie.close (tie.spec class-of-requires cast-of sound-word-requires returns)

@@ -2,132 +2,134 @@
 -- Assumes nothing.
 use mathlib.Core.Path.{_≡_, refl, sym, ap, ap₂, _∙_, subst}
 use mathlib.Core.List.{List}
-use Prim.Native.Nat.{ℕ, _<_}
-use native.Mathlib.Omega.{arith}
-use native.Mathlib.Nat.{lt-of-lt-of-le}
+use Prim.Native.Nat.{ℕ, _+_, _<_}
 use borrow.Author.Needs.{needs}
 use Rattle.policy.proofs.Laws.{policy-laws}
+use Rattle.scheduler.specs.Word.{commandNumber}
 use Rattle.scheduler.specs.Wire.{dueAt}
-use Rattle.scheduler.specs.Step.{turnsAt, Driven, drive, answered}
-use Rattle.scheduler.specs.Call.{turnShown, afterTick}
-use Rattle.scheduler.specs.InPlace.{stateOf}
-use Rattle.scheduler.specs.declared.Turns.{Turns}
+use Rattle.scheduler.specs.Step.{TurnStart, turnsAt, Driven, Bus, drive, answered}
+use Rattle.scheduler.specs.Call.{busAt, afterTick}
+use Rattle.scheduler.specs.Calls.{Answer}
+use Rattle.scheduler.specs.InPlace.{stateOf, flightOf, startOf}
 use Rattle.scheduler.specs.declared.Queues.{Queues}
 use Rattle.scheduler.specs.declared.Flight.{Flight}
-use Rattle.scheduler.specs.declared.Record.{Record}
-use Rattle.scheduler.specs.declared.Wires.{Wires}
 use Rattle.scheduler.specs.declared.State.{State}
-use Rattle.scheduler.specs.declared.Ticked.{Ticked}
-use Rattle.scheduler.proofs.Ordered.{turn-owner}
-use Rattle.scheduler.proofs.Ranged.{Ranged, ranged, ready}
-use Rattle.scheduler.proofs.Whole.{whole, due-offer}
+use Rattle.scheduler.proofs.Step.{turn-owner}
+use Rattle.scheduler.proofs.RangeLaws.{Ranged, ranged, BusRange, bus-range, ready}
 use Rattle.scheduler.proofs.ticking.tick_in_place.Statement.{statement}
 use Rattle.scheduler.proofs.ticking.tick_in_place.Tie as tie
 
--- a tick's answer, a state and a record, each of its parts
-abbrev ticked : State → Record → Ticked
-ticked s r = record { status = 0; state = s; shown = r }
+-- ---- places
 
-abbrev later : ℕ → ℕ → Queues → Turns → Flight → State
-later t n q x f = record { cycle = t; classes = n; queues = q; turns = x; flight = f }
+abbrev start-turned : tie.After-turns-at → tie.Start
+start-turned c = c .before .before .before .before .before
 
-abbrev showing : Wires → ℕ → ℕ → Record
-showing w m u = record { wires = w; response = m; turn = u }
+abbrev at-turned : tie.After-drive → tie.After-turns-at
+at-turned c = c .before .before .before .before .before .before
 
--- equal parts make equal answers
-ticked-same : {a b : State} → {x y : Record} → a ≡ b → x ≡ y → ticked a x ≡ ticked b y
-ticked-same p q = ap₂ ticked p q
+abbrev start-driven : tie.After-drive → tie.Start
+start-driven c = start-turned (at-turned c)
 
-later-same : {t n : ℕ} → {a b : Queues} → {x y : Turns} → {f g : Flight} → a ≡ b → x ≡ y → f ≡ g → later t n a x f ≡ later t n b y g
-later-same {t = t} {n = n} {b = b} {y = y} {f = f} p q r =
-    ap₂ (λ (a : Queues) (x : Turns). later t n a x f) p q ∙ ap (later t n b y) r
+-- ---- the state before, and what each step left
 
-showing-same : {a b : Wires} → {m n u v : ℕ} → a ≡ b → m ≡ n → u ≡ v → showing a m u ≡ showing b n v
-showing-same {b = b} {n = n} {u = u} p q r = ap₂ (λ (a : Wires) (m : ℕ). showing a m u) p q ∙ ap (showing b n) r
-
--- what is in flight with these responses left
-abbrev left-flying : Flight → List ℕ → Flight
-left-flying f responses = record { columns = f .columns; responses = responses; banks = f .banks; last = f .last }
-
--- the state before
 abbrev given : tie.Start → State
-given c = stateOf (c .args .m) (c .args .slots .now) (c .args .heads .now) (c .args .lengths .now) (c .args .left .now) (c .args .pointers .now) (c .args .columns .now) (c .args .responses .now) (c .args .banks .now)
+given s = stateOf (s .args .m) (s .args .slots .now) (s .args .heads .now) (s .args .lengths .now) (s .args .left .now) (s .args .pointers .now) (s .args .columns .now) (s .args .responses .now) (s .args .banks .now)
 
-fit : (c : tie.Start) → Ranged (c .args .p) (given c)
-fit c = ranged (c .args .p) (given c) (c .pre .0)
+fit : (s : tie.Start) → Ranged (s .args .p) (given s)
+fit s = ranged (s .args .p) (given s) (s .pre .0 .ranges)
 
--- the definition's turns
-abbrev turning : tie.Start → Turns
-turning c = turnsAt (c .args .p) (c .args .m .cycle) (c .args .lengths .now) (given c .turns)
+-- the definition's turns, and those of the first step
+abbrev right-turns : tie.Start → TurnStart
+right-turns s = turnsAt (s .args .p) (s .args .m .cycle) (s .args .lengths .now) (given s .turns)
 
--- the owner is one of the sixteen
-owner-small : (c : tie.After-turns-at) → c .turns-at .result .owner < 16
+abbrev turned : tie.After-turns-at → TurnStart
+turned c = startOf (c .turns-at .result) (c .turns-at .last .1 .1 .1 .1 .1 .1 .0) (c .turns-at .last .1 .1 .1 .1 .1 .1 .1 .0)
+
+turned-right : (c : tie.After-turns-at) → turned c ≡ right-turns (start-turned c)
+turned-right c = c .turns-at .ensures
+
+-- the owner is one of the sixteen, so the second step has what it rests on
+owner-small : (c : tie.After-turns-at) → turned c .turns .owner < 16
 owner-small c =
-    let s = c .before .before .before .before .before in
+    let s = start-turned c in
     let r = fit s in
-    subst (λ (t : Turns). t .owner < 16) (sym (c .turns-at .ensures .0))
-    (turn-owner (s .args .p) (r .fit) (s .args .m .cycle) (s .args .lengths .now) (given s .turns)
-    (lt-of-lt-of-le (r .owner-class) (policy-laws (s .args .p) (r .fit) .order .classes-few .1)))
+    subst (λ (t : TurnStart). t .turns .owner < 16) (sym (turned-right c))
+    (turn-owner (s .args .p) (r .fit) (s .args .m .cycle) (s .args .lengths .now) (given s .turns) (policy-laws (s .args .p) (r .fit) .order .class-small _ (r .turns .owner-class)))
 
--- what the second step left
-abbrev driven : tie.After-drive → Driven
-driven c =
-    record {
-      wires = c .drive .result .wires;
-      queues = record { slots = c .before .before .before .before .before .before .before .before .before .before .before .args .slots .now; heads = c .drive .last .1 .1 .1 .1 .1 .1 .0; lengths = c .drive .last .1 .1 .1 .1 .1 .1 .1 .0 };
-      flight = record { columns = c .drive .last .1 .1 .1 .1 .1 .1 .1 .1 .0; responses = c .drive .last .1 .1 .1 .1 .1 .1 .1 .1 .1 .0; banks = c .drive .last .1 .1 .1 .1 .1 .1 .1 .1 .1 .1 .0; last = c .drive .result .last };
-    }
+abbrev bus : tie.After-turns-at → Bus
+bus c = busAt (start-turned c .args .p) (given (start-turned c)) (turned c .turns)
 
--- it is what the definition's second step leaves
-driven-right : (c : tie.After-drive) → driven c ≡ drive (c .before .before .before .before .before .before .before .before .before .before .before .args .p .timing) (c .before .before .before .before .before .before .before .before .before .before .before .args .m .cycle) (turning (c .before .before .before .before .before .before .before .before .before .before .before) .owner) (turning (c .before .before .before .before .before .before .before .before .before .before .before) .elided) (given (c .before .before .before .before .before .before .before .before .before .before .before) .queues) (given (c .before .before .before .before .before .before .before .before .before .before .before) .flight)
-driven-right c =
-    let s = c .before .before .before .before .before .before .before .before .before .before .before in
-    c .drive .ensures .0
-    ∙ ap (λ (t : Turns). drive (s .args .p .timing) (s .args .m .cycle) (t .owner) (t .elided) (given s .queues) (given s .flight)) (c .before .before .before .before .before .before .turns-at .ensures .0)
+bus-fit : (c : tie.After-turns-at) → BusRange (start-turned c .args .p .classes) (bus c)
+bus-fit c = let s = start-turned c in bus-range (s .args .p) (given s) (fit s) (turned c .turns) (owner-small c)
+
+-- the definition's second step
+abbrev right-drive : tie.Start → Driven
+right-drive s = drive (busAt (s .args .p) (given s) (right-turns s .turns))
+
+driven-right : (c : tie.After-drive) → drive (bus (at-turned c)) ≡ right-drive (start-driven c)
+driven-right c = let s = start-driven c in ap (λ (t : TurnStart). drive (busAt (s .args .p) (given s) (t .turns))) (turned-right (at-turned c))
+
+abbrev flight-driven : tie.After-drive → Flight
+flight-driven c = flightOf (c .drive .last .1 .1 .1 .1 .1 .0) (c .drive .last .1 .1 .1 .1 .1 .1 .0) (c .drive .last .1 .1 .1 .1 .1 .1 .1 .0) (c .drive .result .last)
+
+flight-right : (c : tie.After-drive) → flight-driven c ≡ right-drive (start-driven c) .flight
+flight-right c = c .drive .ensures .1 .1 ∙ ap (λ (d : Driven). d .flight) (driven-right c)
+
+-- ---- a tick's answer, of its parts
+
+module _ (t n : ℕ) where
+  abbrev made : Queues → TurnStart → Flight → ℕ → ℕ → Answer
+  made q start f command response =
+      record {
+        status = 0;
+        command = command;
+        response = response;
+        turn = start .shown;
+        state = record { cycle = t + 1; classes = n; queues = q; turns = start .turns; flight = f };
+      }
+
+  same-answers : {q r : Queues} → {x y : TurnStart} → {f g : Flight} → {k l i j : ℕ} → q ≡ r → x ≡ y → f ≡ g → k ≡ l → i ≡ j → made q x f k i ≡ made r y g l j
+  same-answers {r = r} {x = x} {y = y} {f = f} {g = g} {k = k} {l = l} {i = i} a b c d e =
+      ap₂ (λ (q : Queues) (z : TurnStart). made q z f k i) a b ∙ ap₂ (λ (h : Flight) (m : ℕ). made r y h m i) c d ∙ ap (made r y g l) e
 
 turns-at-requires : tie.Need-turns-at-requires
-turns-at-requires c κs = let s = c .before .before .before .before in (fit s .fit, s .pre .1, s .pre .2, s .pre .3, whole (s .args .p) (given s) (s .pre .0) .turns-fit .pointers-fit .sixteen)
+turns-at-requires c κs =
+    let s = c .before .before .before .before in
+    (s .pre .0 .lent, s .pre .0 .in-step, s .pre .1, fit s .turns .pointers-fit .sixteen)
 
 drive-requires : tie.Need-drive-requires
 drive-requires c κs =
-    let s = c .before .before .before .before .before .before .before .before .before .before in
-    (ready (s .args .p) (given s) (fit s) (s .pre .1) (c .before .before .before .before .before .turns-at .result .owner) (owner-small (c .before .before .before .before .before)), s .pre .2, due-offer (s .args .p .classes) (s .args .p .timing) (s .args .m .cycle) (given s .flight) (whole (s .args .p) (given s) (s .pre .0) .flight-fit))
+    let at = c .before .before .before .before .before in
+    let s = start-turned at in
+    (ready (s .args .p .classes) (bus at) (bus-fit at) (s .pre .1), s .pre .0 .in-step)
 
 answer-requires : tie.Need-answer-requires
 answer-requires c κs = search needs
 
-add-t32 : tie.Need-add-t32
-add-t32 c = omega (arith, c .before .before .before .before .before .before .before .before .before .before .before .before .before .before .pre .1)
-
-next-offset-requires : tie.Need-next-offset-requires
-next-offset-requires c κs = let s = c .before .before .before .before .before .before .before .before .before .before .before .before .before .before in (policy-laws (s .args .p) (fit s .fit) .timed, s .pre .2)
+next-moment-requires : tie.Need-next-moment-requires
+next-moment-requires c κs =
+    let s = start-driven (c .before .before) in
+    (policy-laws (s .args .p) (fit s .fit) .timed, s .pre .0 .in-step, s .pre .1)
 
 returns : tie.Need-returns
 unfolding afterTick answered
 returns c =
-    let s = c .before .before .before .before .before .before .before .before .before .before .before .before .before .before .before in
+    let at = c .before .before .before in
+    let s = start-driven at in
     let t = s .args .m .cycle in
-    let turns = c .before .before .before .before .before .before .before .before .before .before .turns-at .ensures .0 in
-    let d = driven-right (c .before .before .before .before) in (
-      ticked-same
-          (later-same (ap (λ (d : Driven). d .queues) d) turns
-          (ap (left-flying (driven (c .before .before .before .before) .flight)) (c .before .before .answer .ensures .1) ∙ ap (λ (d : Driven). answered t (d .flight)) d))
-          (showing-same (ap (λ (d : Driven). d .wires) d)
-          (c .before .before .answer .ensures .0 ∙ ap (λ (d : Driven). dueAt (d .flight .responses) t) d)
-          (c .before .before .before .before .before .before .before .before .before .before .turns-at .ensures .1 ∙ ap (turnShown (s .args .p) t) turns)),
-      c .next-offset .ensures,
-      refl,
-      refl,
-      c .before .before .before .before .drive .ensures .1,
+    let sent = c .before .answer .ensures in
+    let responded : Flight → List ℕ → Flight = λ f responses. record { columns = f .columns; responses = responses; banks = f .banks; last = f .last } in
+    rw (c .next-moment .ensures) (
+      same-answers t (s .args .m .classes)
+          (at .drive .ensures .1 .0 ∙ ap (λ (x : Driven). x .queues) (driven-right at))
+          (turned-right (at-turned at))
+          (ap (responded (flight-driven at)) (sent .1) ∙ ap (answered t) (flight-right at))
+          (at .drive .ensures .0 ∙ ap (λ (x : Driven). commandNumber (x .wires)) (driven-right at))
+          (sent .0 ∙ ap (λ (f : Flight). dueAt (f .responses) t) (flight-right at)),
+      record { in-step = refl; same-bottom = refl; same-count = refl },
     )
 
 pub tick-in-place-spec : {M : Type 1} → statement M
 tick-in-place-spec =
     tie.close
-    (tie.spec
-    turns-at-requires
-    drive-requires
-    answer-requires
-    add-t32
-    next-offset-requires
-    returns)
+    (tie.spec turns-at-requires drive-requires answer-requires next-moment-requires returns)

@@ -3,13 +3,22 @@
 use mathlib.Core.Path.{sym, ap, _∙_}
 use borrow.Author.Needs.{needs}
 use borrow.Author.Tests.{eq-eqb, ne-eqb}
-use Rattle.scheduler.proofs.Told.{told-tick, told-offer, told-malformed}
+use Rattle.scheduler.proofs.TraceLaws.{told-tick, told-offer, told-malformed}
 use Rattle.scheduler.specs.declared.trace.Call.the-variants.{Offer}
 use Rattle.scheduler.proofs.trace.call_of.Statement.{statement}
 use Rattle.scheduler.proofs.trace.call_of.Tie as tie
 
+-- the places that the answers look back to: `start-of-then2` is the start, seen from `Then2`
+abbrev start-of-then2 : tie.Then2 → tie.Start
+start-of-then2 c = c .before .before .before
+
+abbrev start-of-request-of : tie.After-request-of → tie.Start
+start-of-request-of c = start-of-then2 (c .before)
+
 returns : tie.Need-returns
-returns c = sym (told-tick (c .before .args .word) (eq-eqb (c .before .args .word) 0 (c .if1 .taken)))
+returns c =
+    let start = c .before in
+    sym (told-tick (start .args .word) (eq-eqb (start .args .word) 0 (c .if1 .taken)))
 
 is-offer-requires : tie.Need-is-offer-requires
 is-offer-requires c κs = search needs
@@ -19,7 +28,7 @@ request-of-requires c κs = search needs
 
 returns-2 : tie.Need-returns-2
 returns-2 c =
-    let w = c .before .before .before .before .args .word in
+    let w = start-of-request-of c .args .word in
     ap Offer (c .request-of .ensures)
     ∙ sym (told-offer w (ne-eqb w 0 (c .before .before .before .if1 .left)) (sym (c .before .before .is-offer .ensures) ∙ c .before .if2 .taken))
 

@@ -2,7 +2,7 @@
 -- Assumes nothing.
 use native.Mathlib.Omega.{arith}
 use borrow.Author.Needs.{needs}
-use lib.ListN.{length, set, length-set}
+use lib.ListN.{set, length-set}
 use Prim.Native.Nat.{_+_}
 use Rattle.scheduler.proofs.trace.write.Statement.{statement}
 use Rattle.scheduler.proofs.trace.write.Tie as tie

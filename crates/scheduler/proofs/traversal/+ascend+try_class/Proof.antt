@@ -13,8 +13,8 @@ use Rattle.policy.specs.Mask.{nth}
 use Rattle.policy.specs.Order.{strictlyIn, aboveIn}
 use Rattle.policy.proofs.Below.{count-le}
 use Rattle.policy.proofs.Numbered as numbered
-use Rattle.scheduler.specs.Traversal.{moved, movedPointer, named, takes, Reached, tryClass}
-use Rattle.scheduler.proofs.Climbing.{moved-names, passes-on, try-takes, try-passes, falls as fewer-above, enough}
+use Rattle.scheduler.specs.Traversal.{candidates, moved, movedPointer, reachedAt, named, takes, Reached, endsAt, tryClass}
+use Rattle.scheduler.proofs.TraversalLaws.{moved-names, passes-on, try-takes, try-passes, falls as fewer-above, enough}
 use borrow.Fn.Kinds.{In}
 use borrow.Fn.PlainCycle.{Measures, is, falls, and}
 use Rattle.scheduler.proofs.traversal.ascend.Reads as ascend
@@ -113,17 +113,18 @@ ascend-try-class-requires : (t : ℕ) → ascend-lts.Need-try-class-requires (
   try-class.Post,
 ) (ascend-at t) ascend.Post
 ascend-try-class-requires t c κs =
-    let s = c .before .before .before .before in
+    let at-nth = c .before in
+    let s = at-nth .before .before .before in
     let rows = s .args .rows .now in
     let m = getD (s .args .covers .now) (s .args .class) 0 in
     let k = getD (s .args .pointers .now) (s .args .class) 0 in
     let order = s .pre .1 .0 in
-    let found = numbered.named m k (s .pre .1 .3) (s .pre .1 .4) in
-    let next = c .before .nth .ensures in
-    let less : aboveIn rows (c .before .nth .result) < aboveIn rows (s .args .class) =
+    let found = numbered.named m k (s .pre .1 .3 .some) (s .pre .1 .3 .within) in
+    let next = at-nth .nth .ensures in
+    let less : aboveIn rows (at-nth .nth .result) < aboveIn rows (s .args .class) =
     subst (λ (j : ℕ). aboveIn rows j < aboveIn rows (s .args .class)) (sym next) (order .falls (s .args .class) (nth m k) (found .in-set))
     in
-    let small : c .before .nth .result < 16 = subst (λ (j : ℕ). j < 16) (sym next) (found .small) in
+    let small : at-nth .nth .result < 16 = subst (λ (j : ℕ). j < 16) (sym next) (found .small) in
     (omega (arith, s .pre .0, less), (order, small, s .pre .1 .2))
 
 ascend-returns : (t : ℕ) → ascend-lts.Need-returns (
@@ -133,9 +134,10 @@ ascend-returns : (t : ℕ) → ascend-lts.Need-returns (
   try-class.Post,
 ) (ascend-at t) ascend.Post
 ascend-returns t c =
-    let s = c .before .before .before .before .before in
+    let at-nth = c .before .before in
+    let s = at-nth .before .before .before in
     c .try-class .ensures
-    ∙ ap (λ (j : ℕ). tryClass 16 (s .args .covers .now) (s .args .lengths .now) (s .args .left .now) (s .args .pointers .now) j) (c .before .before .nth .ensures)
+    ∙ ap (λ (j : ℕ). tryClass 16 (candidates (s .args .covers .now) (s .args .lengths .now) (s .args .left .now)) (s .args .pointers .now) j) (at-nth .nth .ensures)
 
 try-class-mul-moved : (t : ℕ) → try-class-lts.Need-mul-moved (
   moved-reads.Asked,
@@ -285,12 +287,16 @@ try-class-returns : (t : ℕ) → try-class-lts.Need-returns (
   ascend-below t,
   ascend.Post,
 ) (try-class-at t) try-class.Post
-unfolding takes movedPointer at-class
+unfolding takes movedPointer reachedAt endsAt at-class
 try-class-returns t c =
-    let s = c .before .before .before .before .before .before .before .before in
-    let here : takes (s .args .covers .now) (s .args .lengths .now) (s .args .left .now) (s .args .class) ≡ true = sym (c .before .takes .ensures) ∙ c .if1 .taken in
-    ap (at-class (s .args .class) (s .args .pointers .now)) (c .before .before .before .before .before .moved .ensures)
-    ∙ sym (try-takes (s .args .covers .now) (s .args .lengths .now) (s .args .left .now) (s .args .pointers .now) (s .args .class) 16 here)
+    let at-takes = c .before in
+    let takes-arg = at-takes .before .before .before in
+    let at-moved = takes-arg .before in
+    let s = at-moved .before .before .before in
+    let all = candidates (s .args .covers .now) (s .args .lengths .now) (s .args .left .now) in
+    let here : takes all (s .args .class) ≡ true = sym (at-takes .takes .ensures) ∙ c .if1 .taken in
+    ap (at-class (s .args .class) (s .args .pointers .now)) (at-moved .moved .ensures)
+    ∙ sym (try-takes all 16 (s .args .pointers .now) (s .args .class) here)
 
 try-class-ascend-requires : (t : ℕ) → try-class-lts.Need-ascend-requires (
   moved-reads.Asked,
@@ -302,15 +308,19 @@ try-class-ascend-requires : (t : ℕ) → try-class-lts.Need-ascend-requires (
 ) (try-class-at t) try-class.Post
 unfolding takes
 try-class-ascend-requires t c κs =
-    let s = c .before .before .before .before .before .before .before .before .before in
+    let at-takes = c .before .before in
+    let takes-arg = at-takes .before .before .before in
+    let at-moved = takes-arg .before in
+    let s = at-moved .before .before .before in
     let covers = s .args .covers .now in
     let class = s .args .class in
     let order = s .pre .1 .0 in
-    let on : takes covers (s .args .lengths .now) (s .args .left .now) class ≡ false = sym (c .before .before .takes .ensures) ∙ c .before .if1 .left in
-    let range = moved-names (getD covers class 0) (getD (s .args .pointers .now) class 0) (order .sets class) (passes-on covers (s .args .lengths .now) (s .args .left .now) class on) in
-    let stored = stored-pointer s (c .before .before .before .before .before .before .moved .result) in (
+    let all = candidates covers (s .args .lengths .now) (s .args .left .now) in
+    let on : takes all class ≡ false = sym (at-takes .takes .ensures) ∙ c .before .if1 .left in
+    let range = moved-names (getD covers class 0) (getD (s .args .pointers .now) class 0) (order .sets class) (passes-on all class on) in
+    let stored = stored-pointer s (at-moved .moved .result) in (
       omega (arith, s .pre .0),
-      (order, s .pre .1 .1, length-set (s .args .pointers .now) class (c .before .before .before .before .before .before .moved .result) ∙ s .pre .1 .2, omega (arith, stored, range .0, c .before .before .before .before .before .before .moved .ensures), omega (arith, stored, range .1, c .before .before .before .before .before .before .moved .ensures)),
+      (order, s .pre .1 .1, length-set (s .args .pointers .now) class (at-moved .moved .result) ∙ s .pre .1 .2, record { some = omega (arith, stored, range .some, at-moved .moved .ensures); within = omega (arith, stored, range .within, at-moved .moved .ensures) }),
     )
 
 try-class-returns-2 : (t : ℕ) → try-class-lts.Need-returns-2 (
@@ -321,25 +331,29 @@ try-class-returns-2 : (t : ℕ) → try-class-lts.Need-returns-2 (
   ascend-below t,
   ascend.Post,
 ) (try-class-at t) try-class.Post
-unfolding takes movedPointer named aboveIn
+unfolding takes movedPointer reachedAt named aboveIn
 try-class-returns-2 t c =
-    let s = c .before .before .before .before .before .before .before .before .before .before in
+    let at-takes = c .before .before .before in
+    let takes-arg = at-takes .before .before .before in
+    let at-moved = takes-arg .before in
+    let s = at-moved .before .before .before in
     let covers = s .args .covers .now in
     let lengths = s .args .lengths .now in
     let left = s .args .left .now in
     let pointers = s .args .pointers .now in
     let class = s .args .class in
-    let on : takes covers lengths left class ≡ false = sym (c .before .before .before .takes .ensures) ∙ c .before .before .if1 .left in
-    let went = c .before .before .before .before .before .before .before .moved .ensures in
-    let after = set pointers class (movedPointer covers pointers class) in
+    let all = candidates covers lengths left in
+    let on : takes all class ≡ false = sym (at-takes .takes .ensures) ∙ c .before .before .if1 .left in
+    let went = at-moved .moved .ensures in
+    let after = reachedAt covers pointers class in
     let below : aboveIn (s .args .rows .now) (named covers pointers class) ≤ 15 =
-    omega (arith, fewer-above (s .args .rows .now) covers lengths left (s .pre .1 .0) pointers class on, count-le (strictlyIn (s .args .rows .now) class) 16)
+    omega (arith, fewer-above all (s .args .rows .now) (s .pre .1 .0) pointers class on, count-le (strictlyIn (s .args .rows .now) class) 16)
     in
     c .ascend .ensures
-    ∙ ap (λ (v : ℕ). tryClass 16 covers lengths left (set pointers class v) (nth (getD covers class 0) (getD (set pointers class v) class 0))) went
-    ∙ ap (λ (k : ℕ). tryClass 16 covers lengths left after (nth (getD covers class 0) k)) (stored-pointer s (movedPointer covers pointers class))
-    ∙ sym (enough (s .args .rows .now) covers lengths left (s .pre .1 .0) 15 after (named covers pointers class) below)
-    ∙ sym (try-passes covers lengths left pointers class 15 on)
+    ∙ ap (λ (v : ℕ). tryClass 16 all (set pointers class v) (nth (getD covers class 0) (getD (set pointers class v) class 0))) went
+    ∙ ap (λ (k : ℕ). tryClass 16 all after (nth (getD covers class 0) k)) (stored-pointer s (movedPointer covers pointers class))
+    ∙ sym (enough all (s .args .rows .now) (s .pre .1 .0) 15 after (named covers pointers class) below)
+    ∙ sym (try-passes all 15 pointers class on)
 
 pub +ascend+try-class-spec : {M : Type 1} → statement M
 +ascend+try-class-spec = close μ-ascend μ-try-class (λ t. ascend-lts.spec (

@@ -5,8 +5,8 @@ use Rattle.scheduler.specs.Step.{turnWord}
 use Rattle.scheduler.proofs.turning.turn_word.Statement.{statement}
 use Rattle.scheduler.proofs.turning.turn_word.Tie as tie
 
-cast-owner : tie.Need-cast-owner
-cast-owner c = search needs
+cast-number : tie.Need-cast-number
+cast-number c = search needs
 
 add-result : tie.Need-add-result
 add-result c = search needs
@@ -31,4 +31,4 @@ returns-2 c = rw (c .if1 .left)
 pub turn-word-spec : {M : Type 1} → statement M
 turn-word-spec =
     tie.close
-    (tie.spec cast-owner add-result add-result-2 add-result-3 add-result-4 returns returns-2)
+    (tie.spec cast-number add-result add-result-2 add-result-3 add-result-4 returns returns-2)

@@ -1,10 +1,11 @@
--- `scheduler::words::command_number` meets its contract, case by case; a word has bit 30 clear, so setting it does not wrap.
+-- `scheduler::words::command_number` meets its contract, case by case.
 -- Assumes nothing.
-use mathlib.Core.Path.{_∙_, ap, sym}
-use Prim.Native.Nat.{ℕ, _+_}
-use native.Mathlib.Omega.{arith}
+use mathlib.Core.Path.{_≡_, _∙_, ap, sym, subst}
+use mathlib.Core.Bool.{true}
+use Prim.Native.Nat.{ℕ}
 use borrow.Author.Needs.{needs}
-use Rattle.scheduler.specs.Word.{wordOf, commandNumber}
+use Rattle.scheduler.specs.Word.{isOffer, columnNumber, commandNumber}
+use Rattle.scheduler.proofs.Word.{is-offer}
 use Rattle.scheduler.proofs.words.command_number.Statement.{statement}
 use Rattle.scheduler.proofs.words.command_number.Tie as tie
 
@@ -23,9 +24,8 @@ enum-known-wires-2 c = search needs
 word-of-requires-2 : tie.Need-word-of-requires-2
 word-of-requires-2 c κs = search needs
 
-add-result : tie.Need-add-result
-unfolding wordOf
-add-result c = omega (arith, c .word-of2 .ensures)
+column-number-requires : tie.Need-column-number-requires
+column-number-requires c κs = subst (λ (w : ℕ). isOffer w ≡ true) (sym (c .word-of2 .ensures)) (is-offer _)
 
 returns : tie.Need-returns
 unfolding commandNumber
@@ -37,7 +37,7 @@ returns-2 c = c .word-of .ensures ∙ sym (ap commandNumber (c .before .before .
 
 returns-3 : tie.Need-returns-3
 unfolding commandNumber
-returns-3 c = ap (λ (w : ℕ). w + 1073741824) (c .word-of2 .ensures) ∙ sym (ap commandNumber (c .before .before .wires2 .given .1))
+returns-3 c = c .column-number .ensures ∙ ap columnNumber (c .before .word-of2 .ensures) ∙ sym (ap commandNumber (c .before .before .before .wires2 .given .1))
 
 pub command-number-spec : {M : Type 1} → statement M
 command-number-spec =
@@ -48,7 +48,7 @@ command-number-spec =
     word-of-requires
     enum-known-wires-2
     word-of-requires-2
-    add-result
+    column-number-requires
     returns
     returns-2
     returns-3)

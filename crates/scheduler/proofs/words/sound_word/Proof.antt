@@ -19,7 +19,9 @@ bank-and-kind-fit-requires c κs = search needs
 
 returns : tie.Need-returns
 unfolding soundWord
-returns c = rw (c .bank-and-kind-fit .ensures, c .before .class-fits .ensures, c .before .before .is-offer .ensures, c .before .before .before .request-of .ensures)
+returns c =
+    let request-of = c .before .before .before in
+    rw (c .bank-and-kind-fit .ensures, c .before .class-fits .ensures, c .before .before .is-offer .ensures, request-of .request-of .ensures)
 
 pub sound-word-spec : {M : Type 1} → statement M
 sound-word-spec =

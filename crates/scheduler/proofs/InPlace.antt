@@ -1,0 +1,19 @@
+-- What is lent in place: the policy's arrays are what the traversal rests on, and a state is its arrays and its numbers.
+-- Assumes nothing.
+use mathlib.Core.Path.{sym, subst}
+use mathlib.Core.List.{List}
+use Prim.Native.Nat.{ℕ}
+use Rattle.policy.specs.declared.Policy.{Policy}
+use Rattle.scheduler.specs.Climb.{Climbs}
+use Rattle.scheduler.specs.InPlace.{Lent, stateOf}
+use Rattle.scheduler.specs.declared.ticking.Moment.{Moment}
+use Rattle.scheduler.specs.declared.State.{State}
+use Rattle.scheduler.proofs.TraversalLaws.{climbs}
+
+pub climbs-lent : (p : Policy) (bottom : ℕ) (rows covers caps : List ℕ) → Lent p bottom rows covers caps → Climbs rows covers
+climbs-lent p bottom rows covers caps lent =
+    subst (λ (cs : List ℕ). Climbs rows cs) (sym (lent .covers-are)) (subst (λ (rs : List ℕ). Climbs rs (p .covers)) (sym (lent .rows-are)) (climbs p (lent .fit)))
+
+-- a state's arrays, with these numbers
+abbrev pub with-numbers : State → Moment → State
+with-numbers s m = stateOf m (s .queues .slots) (s .queues .heads) (s .queues .lengths) (s .turns .left) (s .turns .pointers) (s .flight .columns) (s .flight .responses) (s .flight .banks)

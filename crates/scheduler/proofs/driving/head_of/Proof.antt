@@ -1,0 +1,38 @@
+-- `scheduler::driving::head_of` meets its contract: a place of a class's ring is one of the 128.
+-- Assumes nothing.
+use native.Mathlib.Omega.{arith}
+use borrow.Author.Needs.{needs}
+use Rattle.scheduler.specs.Queue.{place}
+use Rattle.scheduler.proofs.driving.head_of.Statement.{statement}
+use Rattle.scheduler.proofs.driving.head_of.Tie as tie
+
+mul-place : tie.Need-mul-place
+mul-place c = search needs
+
+element-copy-out-place : tie.Need-element-copy-out-place
+element-copy-out-place c = search needs
+
+place-requires : tie.Need-place-requires
+place-requires c κs = search needs
+
+mul-result : tie.Need-mul-result
+unfolding place
+mul-result c = omega (arith, c .place .ensures)
+
+element-copy-out-result : tie.Need-element-copy-out-result
+unfolding place
+element-copy-out-result c = omega (arith, c .place .ensures)
+
+returns : tie.Need-returns
+returns c = rw (c .before .place .ensures)
+
+pub head-of-spec : {M : Type 1} → statement M
+head-of-spec =
+    tie.close
+    (tie.spec
+    mul-place
+    element-copy-out-place
+    place-requires
+    mul-result
+    element-copy-out-result
+    returns)

@@ -1,0 +1,22 @@
+-- `scheduler::ticking::next_moment` meets its contract: it is the definition.
+-- Assumes nothing.
+use borrow.Author.Needs.{needs}
+use Rattle.scheduler.proofs.ticking.next_moment.Statement.{statement}
+use Rattle.scheduler.proofs.ticking.next_moment.Tie as tie
+
+add-t4 : tie.Need-add-t4
+add-t4 c = search needs
+
+next-offset-requires : tie.Need-next-offset-requires
+next-offset-requires c κs = search needs
+
+returns : tie.Need-returns
+returns c = rw (c .next-offset .ensures)
+
+pub next-moment-spec : {M : Type 1} → statement M
+next-moment-spec =
+    tie.close
+    (tie.spec
+    add-t4
+    next-offset-requires
+    returns)

@@ -175,16 +175,18 @@ impl Coverage {
                 Ok(record) => self.add_tick(policy, state, &record),
                 Err(refusal) => self.met(&refusal_name(refusal.number())),
             },
-            Word::Offer(request) => match offer_in_range(policy, state, request) {
-                Ok(()) => self.add_taken(policy, state, &request),
-                Err(refusal) => {
-                    self.met(&refusal_name(refusal.number()));
-                    let [bank, kind] = [request.bank > 7, request.kind > 1];
-                    let class = refusal == Refusal::Class;
-                    self.met_if(!class && bank && !kind, "offers of a bank above 7 alone");
-                    self.met_if(!class && kind && !bank, "offers of a kind above 1 alone");
+            Word::Offer(request) => {
+                match offer_in_range(policy, state, request, Planted::Nothing) {
+                    Ok(()) => self.add_taken(policy, state, &request),
+                    Err(refusal) => {
+                        self.met(&refusal_name(refusal.number()));
+                        let [bank, kind] = [request.bank > 7, request.kind > 1];
+                        let class = refusal == Refusal::Class;
+                        self.met_if(!class && bank && !kind, "offers of a bank above 7 alone");
+                        self.met_if(!class && kind && !bank, "offers of a kind above 1 alone");
+                    }
                 }
-            },
+            }
             Word::Malformed => self.met(&refusal_name(14)),
         }
     }

@@ -33,11 +33,18 @@ pub(crate) fn is_elided(policy: &Policy, state: &State, turn: u32, planted: Plan
     // All but the last case are no rules, but leaks that tests plant.
     let by = match planted {
         Planted::AlwaysElided => return true,
+        Planted::AlwaysElidedInLongTurns if policy.timing.turn_length >= 240 => return true,
         Planted::Document000Elision => return document_000_elides(policy, state),
         Planted::EpochEndForgotten => TurnsLeft::OfThisEpoch,
+        Planted::EpochEndForgottenAboveFive if policy.epoch > 5 => TurnsLeft::OfThisEpoch,
         _ => turns_left_before_next(policy, turn),
     };
-    lookahead(policy, state, by) == Lookahead::ReachesOwner
+    let end = lookahead(policy, state, by);
+    // Not a rule: a leak that tests plant.
+    if planted == Planted::IncomparableForgottenForOwner15 && state.owner == 15 {
+        return end != Lookahead::MeetsClassWithTurnsLeft;
+    }
+    end == Lookahead::ReachesOwner
 }
 
 /// "(the caps, in an epoch's last turn)": the next turn then starts an epoch.

@@ -2,25 +2,20 @@
 //! L and yet differ in what L sees. The field's word for demand 3 is
 //! noninterference.
 
-use crate::extract::{extract, is_kept};
-use crate::generate::{
-    malformed_word, missing_class_word, refused_offer, sound_offer, sound_rows, sound_timing,
-    PolicyFields,
-};
+use crate::altered::Altered;
 use crate::planted::Planted;
-use crate::policy::{self, Policy, MOST_CLASSES};
+use crate::policy::{Policy, MOST_CLASSES};
 use crate::random::Random;
 use crate::refusal::Refusal;
 use crate::state::{self, State};
-use crate::tick::{offer, tick_planted};
+use crate::tick::{offer_planted, tick_planted};
 use crate::trace::{run_planted, tick_line, Word, COLUMN_BIT, LINE, OFFER_BIT};
+
+pub use crate::pairs::{pair, purge, Cut, Pair};
 
 /// The number of pairs in which every planted leak must show, and the model as
 /// it is must show none.
-pub const ORDINARY_PAIRS: u64 = 4_000;
-
-/// Lists are cut off after so many ticks.
-const MOST_TICKS: usize = 240;
+pub const ORDINARY_PAIRS: u64 = 50_000;
 
 /// A leak: a pair of lists that agree for L, and what differs.
 #[derive(Clone, Debug, PartialEq, Eq)]
@@ -28,6 +23,8 @@ pub struct Leak {
     /// The seed of the pair: [`pair`] makes it again.
     pub seed: u64,
     pub class: usize,
+    /// The comparison that told.
+    pub check: Check,
     pub what: String,
 }
 
@@ -40,6 +37,20 @@ pub struct Search {
     pub pairs_with_different_logs: u64,
     /// Pairs in which every class may flow to L: nothing to hide but noise.
     pub pairs_without_neighbours: u64,
+    pub pairs_of_sixteen_classes: u64,
+    pub pairs_with_another_least_class_than_0: u64,
+    /// Pairs with E above 5 whose lists go on after an epoch's end, and those of
+    /// E above 16 among them.
+    pub pairs_past_an_epoch_above_5: u64,
+    pub pairs_past_an_epoch_above_16: u64,
+    /// Pairs of two turns or more, each of 240 ticks or more.
+    pub pairs_with_turns_above_239: u64,
+    /// Ticks of the longest list.
+    pub most_ticks: u64,
+    /// Lists whose last number is no tick.
+    pub lists_with_an_open_end: u64,
+    /// Offers, hidden or seen, that got 11.
+    pub offers_to_full_queues: u64,
     pub lists_cut_into_runs: u64,
     pub lists_cut_into_single_calls: u64,
     pub calls: u64,
@@ -58,6 +69,14 @@ impl Search {
             "pairs compared: {}\n\
              pairs with different logs: {}\n\
              pairs without neighbours: {}\n\
+             pairs of sixteen classes: {}\n\
+             pairs with another least class than 0: {}\n\
+             pairs past an epoch above 5: {}\n\
+             pairs past an epoch above 16: {}\n\
+             pairs with turns above 239: {}\n\
+             most ticks in a list: {}\n\
+             lists with an open end: {}\n\
+             offers to full queues: {}\n\
              lists cut into runs: {}\n\
              lists cut into single calls: {}\n\
              calls: {}\n\
@@ -68,6 +87,14 @@ impl Search {
             self.pairs,
             self.pairs_with_different_logs,
             self.pairs_without_neighbours,
+            self.pairs_of_sixteen_classes,
+            self.pairs_with_another_least_class_than_0,
+            self.pairs_past_an_epoch_above_5,
+            self.pairs_past_an_epoch_above_16,
+            self.pairs_with_turns_above_239,
+            self.most_ticks,
+            self.lists_with_an_open_end,
+            self.offers_to_full_queues,
             self.lists_cut_into_runs,
             self.lists_cut_into_single_calls,
             self.calls,
@@ -96,51 +123,86 @@ pub fn search(count: u64) -> Search {
 pub fn search_planted(count: u64, planted: Planted) -> Search {
     let mut search = Search::default();
     for seed in 0..count {
-        compare(seed, planted, &mut search);
-        if search.leak.is_some() {
+        let pair = pair(seed);
+        let done = [0, 1].map(|side| perform(&pair, side, planted));
+        let outcomes = outcomes(&pair, &done);
+        search.count_pair(&pair);
+        search.count_logs(&pair, &done[0].log, &done[1].log);
+        search.count_seen(&outcomes[0].extract);
+        if let Some((check, what)) = difference(&pair, &done, &outcomes) {
+            search.leak = Some(Leak {
+                seed,
+                class: pair.class,
+                check,
+                what,
+            });
             break;
         }
     }
     search
 }
 
+/// Which comparison tells the changed outcome of one of a pair's lists from the
+/// other's, if any does; nothing where the pair has nothing to be so changed.
+/// For tests.
+pub fn check_altered(seed: u64, altered: Altered) -> Option<Option<Check>> {
+    let pair = pair(seed);
+    let mut done = [0, 1].map(|side| perform(&pair, side, Planted::Nothing));
+    // Either list's outcome must be looked at.
+    let (side, place) = ((seed % 2) as usize, seed / 2);
+    let in_performed = altered.change_performed(&pair, side, place, &mut done[side]);
+    let mut outcomes = outcomes(&pair, &done);
+    let in_outcome = altered.change_outcome(&mut outcomes[side]);
+    let fired = difference(&pair, &done, &outcomes).map(|(check, _)| check);
+    (in_performed || in_outcome).then_some(fired)
+}
+
 // ---------------------------------------------------------------------------
 // Comparing one pair.
 
-/// Performs both lists of a pair and compares what L sees.
-fn compare(seed: u64, planted: Planted, search: &mut Search) {
-    let pair = pair(seed);
-    let [left, right] = [0, 1].map(|side| perform(&pair, side, planted));
-    search.pairs += 1;
-    search.calls += (pair.lists[0].len() + pair.lists[1].len()) as u64;
-    for cut in pair.cuts {
-        search.lists_cut_into_runs += u64::from(cut == Cut::Runs);
-        search.lists_cut_into_single_calls += u64::from(cut == Cut::SingleCalls);
-    }
-    let neighbours = (0..pair.policy.class_count()).any(|class| !pair.sees(class));
-    search.pairs_without_neighbours += u64::from(!neighbours);
-    let changed = pair.ticks_of(0, &left.log) != pair.ticks_of(1, &right.log);
-    search.pairs_with_different_logs += u64::from(changed);
-
-    let [left_extract, right_extract] = [(0, &left), (1, &right)].map(|(side, done)| {
-        let mut out = vec![0; done.log.len()];
-        let (count, refusal) = pair.extract(side, &done.log, &mut out);
-        out.truncate(count);
-        (out, refusal)
-    });
-    search.numbers_compared += left_extract.0.len() as u64;
-    search.count_seen(&left_extract.0);
-    search.leak =
-        difference(&pair, &left, &right, &left_extract, &right_extract).map(|what| Leak {
-            seed,
-            class: pair.class,
-            what,
-        });
-}
-
 impl Search {
-    fn count_seen(&mut self, extract: &[u32]) {
-        for line in extract.chunks_exact(LINE) {
+    fn count_pair(&mut self, pair: &Pair) {
+        let policy = &pair.policy;
+        let n = policy.class_count();
+        self.pairs += 1;
+        self.calls += (pair.lists[0].len() + pair.lists[1].len()) as u64;
+        for cut in pair.cuts {
+            self.lists_cut_into_runs += u64::from(cut == Cut::Runs);
+            self.lists_cut_into_single_calls += u64::from(cut == Cut::SingleCalls);
+        }
+        let neighbours = (0..n).any(|class| !pair.sees(class));
+        self.pairs_without_neighbours += u64::from(!neighbours);
+        self.pairs_of_sixteen_classes += u64::from(n == MOST_CLASSES);
+        self.pairs_with_another_least_class_than_0 += u64::from(policy.least() != 0);
+        let ticks = pair.ticks();
+        let turn_length = usize::from(policy.timing.turn_length);
+        let epoch = usize::from(policy.epoch);
+        let past_epoch = ticks > epoch * turn_length;
+        self.pairs_past_an_epoch_above_5 += u64::from(epoch > 5 && past_epoch);
+        self.pairs_past_an_epoch_above_16 += u64::from(epoch > 16 && past_epoch);
+        let long_turns = turn_length >= 240 && ticks > turn_length;
+        self.pairs_with_turns_above_239 += u64::from(long_turns);
+        self.most_ticks = self.most_ticks.max(ticks as u64);
+        for list in &pair.lists {
+            let open_end = list.last().is_some_and(|&number| number != 0);
+            self.lists_with_an_open_end += u64::from(open_end);
+        }
+    }
+
+    fn count_logs(&mut self, pair: &Pair, left: &[u32], right: &[u32]) {
+        let changed = pair.ticks_of(0, left).ne(pair.ticks_of(1, right));
+        self.pairs_with_different_logs += u64::from(changed);
+        let full = |line: &[u32]| line[0] == Refusal::QueueFull.number();
+        for log in [left, right] {
+            let count = log.chunks_exact(LINE).filter(|line| full(line)).count();
+            self.offers_to_full_queues += count as u64;
+        }
+    }
+
+    fn count_seen(&mut self, extract: &Extract) {
+        let numbers = &extract.out[..extract.count];
+        self.numbers_compared += numbers.len() as u64;
+        for line in numbers.chunks_exact(LINE) {
             let activate = line[1] & OFFER_BIT != 0 && line[1] & COLUMN_BIT == 0;
             self.seen_activates += u64::from(activate);
             self.hidden_turns += u64::from(line[3] == crate::extract::HIDDEN_TURN);
@@ -149,70 +211,178 @@ impl Search {
     }
 }
 
-/// An extract with plenty of room: its numbers, and its refusal if any.
-type Extract = (Vec<u32>, Option<Refusal>);
+/// What stands in a slice before an extract writes into it. No log has it.
+const UNWRITTEN: u32 = u32::MAX;
+
+/// An extract: what it handed back, and the whole slice after it.
+#[derive(Clone, Debug, PartialEq, Eq)]
+pub(crate) struct Extract {
+    pub(crate) count: usize,
+    pub(crate) refusal: Option<Refusal>,
+    pub(crate) out: Vec<u32>,
+}
+
+/// What the extracts of one list's log gave, each in a room that is the same for
+/// both lists.
+pub(crate) struct Outcome {
+    /// With more room than either log fills.
+    pub(crate) extract: Extract,
+    /// With room for just what the first list's extract wrote.
+    pub(crate) just_room: Extract,
+    /// With one number less, if there is one less.
+    pub(crate) short_room: Option<Extract>,
+}
+
+/// The extracts of two performed lists.
+fn outcomes(pair: &Pair, done: &[Performed; 2]) -> [Outcome; 2] {
+    let extract = |side: usize, room: usize| {
+        let mut out = vec![UNWRITTEN; room];
+        let (count, refusal) = pair.extract(side, &done[side].log, &mut out);
+        Extract {
+            count,
+            refusal,
+            out,
+        }
+    };
+    let plenty = done[0].log.len().max(done[1].log.len()) + 1;
+    let extracts = [0, 1].map(|side| extract(side, plenty));
+    let just = extracts[0].count;
+    let mut side = 0..2;
+    extracts.map(|with_plenty| {
+        let side = side.next().unwrap_or(0);
+        Outcome {
+            extract: with_plenty,
+            just_room: extract(side, just),
+            short_room: just.checked_sub(1).map(|short| extract(side, short)),
+        }
+    })
+}
+
+/// The comparison that tells two lists apart.
+#[derive(Clone, Copy, Debug, PartialEq, Eq)]
+pub enum Check {
+    /// A run was not answered as a run is, whatever is in its list.
+    Run,
+    /// An extract with room enough was refused.
+    Refusal,
+    /// How many numbers the extracts wrote.
+    Count,
+    /// The four numbers of a line of the extracts.
+    Status,
+    Command,
+    Answer,
+    Turn,
+    /// What stands past the count.
+    PastTheCount,
+    /// An extract with just enough room, or with one number less.
+    Room,
+    /// The waiting requests, turns left and mark of a class that may flow to L.
+    Queue,
+    TurnsLeft,
+    Mark,
+}
 
 /// What differs for L between two lists that agree for it.
 fn difference(
     pair: &Pair,
-    left: &Performed,
-    right: &Performed,
-    left_extract: &Extract,
-    right_extract: &Extract,
-) -> Option<String> {
-    // "the extracts of the two logs for L hand back the same count and write
-    // the same numbers"
-    if left_extract.1.is_some() || right_extract.1.is_some() {
-        return Some("an extract with room enough is refused".to_string());
+    done: &[Performed; 2],
+    outcomes: &[Outcome; 2],
+) -> Option<(Check, String)> {
+    difference_of_runs(done)
+        .or_else(|| difference_of_extracts(outcomes))
+        .or_else(|| difference_of_rooms(outcomes))
+        .or_else(|| difference_of_states(pair, done))
+}
+
+/// A run's own status goes by its room alone, and so is the same for both.
+fn difference_of_runs([left, right]: &[Performed; 2]) -> Option<(Check, String)> {
+    let refusal = left.run_refused.or(right.run_refused)?;
+    Some((Check::Run, format!("a run got {}", refusal.number())))
+}
+
+/// "the extracts of the two logs for L hand back the same count and write the
+/// same numbers"
+fn difference_of_extracts([left, right]: &[Outcome; 2]) -> Option<(Check, String)> {
+    let (left, right) = (&left.extract, &right.extract);
+    if let Some(refusal) = left.refusal.or(right.refusal) {
+        let what = format!("an extract with room enough got {}", refusal.number());
+        return Some((Check::Refusal, what));
     }
-    let (left_numbers, right_numbers) = (&left_extract.0, &right_extract.0);
-    if left_numbers.len() != right_numbers.len() {
-        return Some(format!(
-            "the counts are {} and {}",
-            left_numbers.len(),
-            right_numbers.len()
-        ));
+    if left.count != right.count {
+        let what = format!("the counts are {} and {}", left.count, right.count);
+        return Some((Check::Count, what));
     }
-    let place = (0..left_numbers.len()).find(|&place| left_numbers[place] != right_numbers[place]);
-    if let Some(place) = place {
-        return Some(format!(
-            "number {place} of the extracts is {:08X} and {:08X}",
-            left_numbers[place], right_numbers[place]
-        ));
+    let place = (0..left.out.len()).find(|&place| left.out[place] != right.out[place])?;
+    let check = match place % LINE {
+        _ if place >= left.count => Check::PastTheCount,
+        0 => Check::Status,
+        1 => Check::Command,
+        2 => Check::Answer,
+        _ => Check::Turn,
+    };
+    let what = format!(
+        "number {place} of the extracts is {:08X} and {:08X}",
+        left.out[place], right.out[place]
+    );
+    Some((check, what))
+}
+
+/// "given equal room, 16 meets both or neither": with just enough room neither,
+/// and with one number less both.
+fn difference_of_rooms([left, right]: &[Outcome; 2]) -> Option<(Check, String)> {
+    let found = |what: &str| Some((Check::Room, what.to_string()));
+    if left.just_room.refusal.is_some() || left.just_room != right.just_room {
+        return found("with just enough room the extracts differ or are refused");
     }
-    // "given equal room, 16 meets both or neither": one number short.
-    if let Some(short) = left_numbers.len().checked_sub(1) {
-        let refusals = [(0, left), (1, right)].map(|(side, done)| {
-            let mut out = vec![0; short];
-            pair.extract(side, &done.log, &mut out)
-        });
-        if refusals != [(0, Some(Refusal::ExtractTooShort)); 2] {
-            return Some(format!("one number short the extracts are {refusals:?}"));
+    let short = left.short_room.as_ref();
+    let refused = short.is_none_or(|short| short.refusal == Some(Refusal::ExtractTooShort));
+    if !refused || left.short_room != right.short_room {
+        return found("one number short the extracts differ or are taken");
+    }
+    None
+}
+
+/// "For each class that may flow to L, equal in the states after the two lists
+/// are its waiting requests, oldest first, its turns left and its mark"
+fn difference_of_states(pair: &Pair, [left, right]: &[Performed; 2]) -> Option<(Check, String)> {
+    for class in (0..pair.policy.class_count()).filter(|&class| pair.sees(class)) {
+        let (left, right) = (&left.state.classes[class], &right.state.classes[class]);
+        let found = |check, what| Some((check, format!("the {what} of class {class} differ")));
+        if left.queue != right.queue {
+            return found(Check::Queue, "waiting requests");
+        }
+        if left.left != right.left {
+            return found(Check::TurnsLeft, "turns left");
+        }
+        if left.pointer != right.pointer {
+            return found(Check::Mark, "marks");
         }
     }
-    // "For each class that may flow to L, equal in the states after the two
-    // lists are its waiting requests, oldest first, its turns left and its mark"
-    (0..pair.policy.class_count())
-        .filter(|&class| pair.sees(class))
-        .find(|&class| left.state.classes[class] != right.state.classes[class])
-        .map(|class| format!("queue, turns left or pointer of class {class} differ"))
+    None
 }
 
 /// A list that was performed: the state after it, and its log.
-struct Performed {
-    state: State,
-    log: Vec<u32>,
+pub(crate) struct Performed {
+    /// What the first run got that was not answered as it must be: with room
+    /// enough 0, and else 15.
+    pub(crate) run_refused: Option<Refusal>,
+    pub(crate) state: State,
+    pub(crate) log: Vec<u32>,
 }
 
 /// Performs a list from the policy's fresh state: "ticks and offers, made singly
 /// or inside one run or several, and malformed words, which get 14 inside a run".
 fn perform(pair: &Pair, side: usize, planted: Planted) -> Performed {
-    let policy = &pair.policy;
     let list = &pair.lists[side];
-    let (mut state, _) = state::fresh(policy);
+    let mut performer = Performer {
+        policy: &pair.policy,
+        planted,
+        state: state::fresh(&pair.policy).0,
+        run_refused: None,
+    };
     let mut log = vec![0; LINE * list.len()];
     match pair.cuts[side] {
-        Cut::OneRun => run_part(policy, &mut state, list, &mut log, planted),
+        Cut::OneRun => performer.run(list, &mut log),
         Cut::Runs => {
             let random = &mut Random::new(list.len() as u64);
             let mut start = 0;
@@ -221,269 +391,55 @@ fn perform(pair: &Pair, side: usize, planted: Planted) -> Performed {
                 let (part, lines) = (&list[start..end], &mut log[LINE * start..LINE * end]);
                 // "A run refused with 15 makes none": it may come in between.
                 let short = lines.len() - 1;
-                let _ = run_planted(policy, &mut state, part, &mut lines[..short], planted);
-                run_part(policy, &mut state, part, lines, planted);
+                performer.run(part, &mut lines[..short]);
+                performer.run(part, lines);
                 start = end;
             }
         }
         Cut::SingleCalls => {
             for (&number, line) in list.iter().zip(log.chunks_exact_mut(LINE)) {
-                single_call(policy, &mut state, number, line, planted);
+                performer.single_call(number, line);
             }
         }
     }
-    Performed { state, log }
+    Performed {
+        run_refused: performer.run_refused,
+        state: performer.state,
+        log,
+    }
 }
 
-fn run_part(policy: &Policy, state: &mut State, part: &[u32], log: &mut [u32], planted: Planted) {
-    // A refused run would leave zeros in one log alone, and so be seen.
-    let _ = run_planted(policy, state, part, log, planted);
-}
-
-/// One trace number as a call of its own. Its log line is the one that a run
-/// over the whole list writes.
-fn single_call(
-    policy: &Policy,
-    state: &mut State,
-    number: u32,
-    line: &mut [u32],
+/// A list that is being performed.
+struct Performer<'a> {
+    policy: &'a Policy,
     planted: Planted,
-) {
-    let outcome = match Word::of(number) {
-        Word::Tick => tick_planted(policy, state, planted).map(|record| tick_line(&record)),
-        Word::Offer(request) => offer(policy, state, request).map(|()| [0; LINE]),
-        Word::Malformed => {
-            return run_part(policy, state, &[number], line, planted);
-        }
-    };
-    let refused = |refusal: Refusal| [refusal.number(), 0, 0, 0];
-    line.copy_from_slice(&outcome.unwrap_or_else(refused));
+    state: State,
+    run_refused: Option<Refusal>,
 }
 
-// ---------------------------------------------------------------------------
-// Making a pair.
-
-/// How a list is made into calls.
-#[derive(Clone, Copy, Debug, PartialEq, Eq)]
-pub enum Cut {
-    OneRun,
-    Runs,
-    SingleCalls,
-}
-
-/// Two lists that agree for a class, under one policy.
-pub struct Pair {
-    /// The policy's file, and the policy itself.
-    pub file: Vec<u8>,
-    pub policy: Policy,
-    /// L.
-    pub class: usize,
-    pub lists: [Vec<u32>; 2],
-    pub cuts: [Cut; 2],
-}
-
-impl Pair {
-    /// Whether a class may flow to L.
-    pub fn sees(&self, class: usize) -> bool {
-        self.policy.flows(class, self.class)
-    }
-
-    fn extract(&self, side: usize, log: &[u32], out: &mut [u32]) -> (usize, Option<Refusal>) {
-        extract(&self.policy, self.class, &self.lists[side], log, out)
-    }
-
-    /// The log lines of ticks. Both lists have the same number of them.
-    fn ticks_of(&self, side: usize, log: &[u32]) -> Vec<u32> {
-        self.lists[side]
-            .iter()
-            .zip(log.chunks_exact(LINE))
-            .filter(|&(&number, _)| number == 0)
-            .flat_map(|(_, line)| line.to_vec())
-            .collect()
-    }
-}
-
-/// Document 01: what is left of a list once malformed words and offers whose
-/// class does not exist or may not flow to L are struck out. "Two lists agree if
-/// the same numbers in the same order are left".
-pub fn purge(policy: &Policy, class: usize, list: &[u32]) -> Vec<u32> {
-    list.iter()
-        .copied()
-        .filter(|&number| is_kept(policy, class, number))
-        .collect()
-}
-
-/// The pair of a seed.
-pub fn pair(seed: u64) -> Pair {
-    let random = &mut Random::new(seed);
-    let file = searched_file(random);
-    let (policy, _) = policy::read(&file);
-    let class = searched_class(random, &policy);
-    let cuts = [0, 1].map(|_| match random.below(10) {
-        0 => Cut::Runs,
-        1 => Cut::SingleCalls,
-        _ => Cut::OneRun,
-    });
-    let lists = agreeing_lists(random, &policy, class);
-    Pair {
-        file,
-        policy,
-        class,
-        lists,
-        cuts,
-    }
-}
-
-/// Short turns and epochs, so that a list has many of both, and few classes, so
-/// that each has a part in it; with now and then a policy of any size.
-fn searched_file(random: &mut Random) -> Vec<u8> {
-    let n = match random.below(10) {
-        0 => random.between(1, MOST_CLASSES),
-        _ => random.between(2, 5),
-    };
-    let rows = sound_rows(random, n);
-    let epoch = random.between(1, 5);
-    let sum = *random.pick(&[0, epoch - 1, epoch, epoch]);
-    let mut minimums = vec![0; n];
-    for _ in 0..sum {
-        minimums[random.below(n)] += 1;
-    }
-    let mut timing = sound_timing(random);
-    // Of some timings, the one with the shortest dead time.
-    for _ in 0..random.below(4) {
-        let other = sound_timing(random);
-        if other[1] < timing[1] {
-            timing = other;
+impl Performer<'_> {
+    /// A run, whose status is 15 if its log is too short and else 0.
+    fn run(&mut self, part: &[u32], log: &mut [u32]) {
+        let refusal = run_planted(self.policy, &mut self.state, part, log, self.planted).err();
+        let room = log.len() >= LINE * part.len();
+        let expected = (!room).then_some(Refusal::LogTooShort);
+        if refusal != expected {
+            self.run_refused = self.run_refused.or(refusal).or(expected);
         }
     }
-    if random.percent(90) {
-        // The dead time's share of a turn is small or great.
-        let dead = usize::from(timing[1]);
-        timing[0] = (dead + random.between(1, 8)) as u8;
-    }
-    PolicyFields::new(&rows, epoch as u8, &minimums, timing).encode()
-}
 
-/// Any class, though one that may not see all others if chance allows.
-fn searched_class(random: &mut Random, policy: &Policy) -> usize {
-    let n = policy.class_count();
-    let sees_all = |class: usize| (0..n).all(|other| policy.flows(other, class));
-    let class = random.below(n);
-    if sees_all(class) {
-        random.below(n)
-    } else {
-        class
-    }
-}
-
-/// When a class makes its offers.
-#[derive(Clone, Copy, Debug, PartialEq, Eq)]
-enum Habit {
-    Silent,
-    /// So often that a request nearly always waits.
-    Busy,
-    Sparse,
-    /// Just before a turn starts.
-    BeforeTurnStart,
-    /// Just after a turn has started.
-    AfterTurnStart,
-    /// Just before the last tick of a turn.
-    TurnEnd,
-    /// Just before and just after the dead time begins.
-    DeadTimeEdge,
-}
-
-const HABITS: [Habit; 10] = [
-    Habit::Silent,
-    Habit::Silent,
-    Habit::Busy,
-    Habit::Busy,
-    Habit::Busy,
-    Habit::Sparse,
-    Habit::BeforeTurnStart,
-    Habit::AfterTurnStart,
-    Habit::TurnEnd,
-    Habit::DeadTimeEdge,
-];
-
-/// How many offers a class makes before the tick at an offset.
-fn offers_before(random: &mut Random, policy: &Policy, habit: Habit, offset: usize) -> usize {
-    let turn_length = usize::from(policy.timing.turn_length);
-    let dead_time = usize::from(policy.timing.dead_time);
-    match habit {
-        Habit::Silent => 0,
-        Habit::Busy => usize::from(random.percent(40)),
-        Habit::Sparse => usize::from(random.percent(6)),
-        Habit::BeforeTurnStart if offset == 0 => random.between(1, 3),
-        Habit::AfterTurnStart if offset == 1 => random.between(1, 3),
-        Habit::TurnEnd if offset + 1 == turn_length => random.between(1, 3),
-        Habit::DeadTimeEdge => {
-            let begins = turn_length - dead_time;
-            let edge = offset == begins || offset + 1 == begins;
-            usize::from(edge) * random.between(1, 2)
-        }
-        _ => 0,
-    }
-}
-
-/// Two lists with the same ticks and the same offers of classes that may flow to
-/// L; all other numbers are each list's own.
-fn agreeing_lists(random: &mut Random, policy: &Policy, class: usize) -> [Vec<u32>; 2] {
-    let n = policy.class_count();
-    let (seen, hidden): (Vec<usize>, Vec<usize>) =
-        (0..n).partition(|&other| policy.flows(other, class));
-    let habits =
-        |random: &mut Random| -> Vec<Habit> { (0..n).map(|_| *random.pick(&HABITS)).collect() };
-    let seen_habits = habits(random);
-    let hidden_habits = match random.below(3) {
-        // Silence against whatever the neighbours do.
-        0 => [vec![Habit::Silent; n], habits(random)],
-        _ => [habits(random), habits(random)],
-    };
-    let banks = *random.pick(&[1, 2, 8]);
-    let turn_length = usize::from(policy.timing.turn_length);
-    let turns = random.between(2, 3 * usize::from(policy.epoch) + 2);
-    let ticks = (turns * turn_length).min(MOST_TICKS);
-    let mut lists = [Vec::new(), Vec::new()];
-    for tick in 0..ticks {
-        let offset = tick % turn_length;
-        let mut shared = Vec::new();
-        for &other in &seen {
-            let count = offers_before(random, policy, seen_habits[other], offset);
-            shared.extend((0..count).map(|_| sound_offer(random, other as u8, banks)));
-            if random.percent(1) {
-                shared.push(refused_offer(random, other as u8));
+    /// One trace number as a call of its own. Its log line is the one that a run
+    /// over the whole list writes.
+    fn single_call(&mut self, number: u32, line: &mut [u32]) {
+        let (policy, state, planted) = (self.policy, &mut self.state, self.planted);
+        let outcome = match Word::of(number) {
+            Word::Tick => tick_planted(policy, state, planted).map(|record| tick_line(&record)),
+            Word::Offer(request) => {
+                offer_planted(policy, state, request, planted).map(|()| [0; LINE])
             }
-        }
-        for (list, habits) in lists.iter_mut().zip(&hidden_habits) {
-            let mut own = Vec::new();
-            for &other in &hidden {
-                let count = offers_before(random, policy, habits[other], offset);
-                own.extend((0..count).map(|_| sound_offer(random, other as u8, banks)));
-                if random.percent(1) {
-                    own.push(refused_offer(random, other as u8));
-                }
-            }
-            if random.percent(3) {
-                own.push(malformed_word(random));
-                own.push(missing_class_word(random, policy));
-            }
-            interleave(random, list, &shared, &own);
-            list.push(0);
-        }
-    }
-    lists
-}
-
-/// Puts two short lists at the end of another, each in its own order.
-fn interleave(random: &mut Random, list: &mut Vec<u32>, shared: &[u32], own: &[u32]) {
-    let (mut shared, mut own) = (shared.iter(), own.iter());
-    while shared.len() + own.len() > 0 {
-        let next = if random.below(shared.len() + own.len()) < shared.len() {
-            shared.next()
-        } else {
-            own.next()
+            Word::Malformed => return self.run(&[number], line),
         };
-        list.extend(next);
+        let refused = |refusal: Refusal| [refusal.number(), 0, 0, 0];
+        line.copy_from_slice(&outcome.unwrap_or_else(refused));
     }
 }

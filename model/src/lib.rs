@@ -11,23 +11,26 @@
 //! | Dead time                          | [`dead_time`]           |
 //! | Trace and log                      | [`trace`]               |
 //! | The extract                        | [`extract`]             |
-//! | Two lists side by side             | [`leaks`]               |
+//! | Two lists side by side             | [`leaks`], [`pairs`]    |
 //! | The program                        | [`program`]             |
 //! | What is turned down                | [`refusal`]             |
 //!
 //! [`generate`] makes policies and traces from a seed, [`coverage`] counts
 //! what they exercise, [`random`] is the source of chance of both, and
-//! [`planted`] holds the wrong rules that the search for leaks must find.
+//! [`planted`] holds the wrong rules that the search for leaks must find;
+//! [`altered`] holds the faults by which its comparison is tested.
 //!
 //! The text in quotation marks above a rule is document 01's own.
 
 #![forbid(unsafe_code)]
 
+pub mod altered;
 pub mod coverage;
 pub mod dead_time;
 pub mod extract;
 pub mod generate;
 pub mod leaks;
+pub mod pairs;
 pub mod planted;
 pub mod policy;
 pub mod program;

@@ -21,4 +21,24 @@ pub enum Planted {
     /// A lower class whose request comes after the turn's start takes the turn
     /// back from an idle owner.
     TurnReclaimed,
+    /// As [`Planted::EpochEndForgotten`], but only where E is above 5.
+    EpochEndForgottenAboveFive,
+    /// The dead time is always dropped where turns are of 240 ticks or more.
+    AlwaysElidedInLongTurns,
+    /// The age of a bank's last activate is kept in 8 bits, so that after 256
+    /// cycles its gap counts as not met once more.
+    BankAgeInEightBits,
+    /// Where class 15 owns the turn, the trial walk forgets that a class may be
+    /// incomparable: only turns left keep the dead time.
+    IncomparableForgottenForOwner15,
+    /// Besides its own limit of 8, each class draws on one pool of 120 requests.
+    SharedPoolOf120,
+    /// A mark that goes back to 1 moves on the mark of the class below, from
+    /// which the walk came, as in a row of counting wheels.
+    MarkCarried,
+    /// A run whose last word is malformed answers with 14, though all its calls
+    /// are made: a run's own status tells of a word that is struck out.
+    RunAnswersForItsLastWord,
+    /// A run refused with 15 makes its calls.
+    RefusedRunMakesItsCalls,
 }

@@ -51,8 +51,17 @@ pub(crate) fn tick_planted(
 
 /// One offer, as a call of its own. "Order: offers 13, 9, 10, 11".
 pub fn offer(policy: &Policy, state: &mut State, request: Request) -> Result<(), Refusal> {
+    offer_planted(policy, state, request, Planted::Nothing)
+}
+
+pub(crate) fn offer_planted(
+    policy: &Policy,
+    state: &mut State,
+    request: Request,
+    planted: Planted,
+) -> Result<(), Refusal> {
     check_range(policy, state)?;
-    offer_in_range(policy, state, request)
+    offer_in_range(policy, state, request, planted)
 }
 
 /// An offer on a state that 13 does not refuse. "An offer that is not turned
@@ -62,9 +71,14 @@ pub(crate) fn offer_in_range(
     policy: &Policy,
     state: &mut State,
     request: Request,
+    planted: Planted,
 ) -> Result<(), Refusal> {
     if let Some(refusal) = request.refused_by(policy) {
         return Err(refusal);
+    }
+    // Not a rule: a leak that tests plant.
+    if planted == Planted::SharedPoolOf120 && waiting_of_all(state) >= 120 {
+        return Err(Refusal::QueueFull);
     }
     // Each class has a limit of its own: a full queue says nothing of others.
     let queue = &mut state.classes[usize::from(request.class)].queue;
@@ -90,7 +104,7 @@ pub(crate) fn tick_in_range(
     if planted == Planted::TurnReclaimed && turn.is_none() {
         reclaim_turn(policy, state);
     }
-    let wires = drive_wires(policy, state);
+    let wires = drive_wires(policy, state, planted);
     // "3. If an answer is due, it goes out."
     let response = take_due(&mut state.responses, state.cycle);
     state.cycle += 1;
@@ -127,7 +141,7 @@ fn start_turn(policy: &Policy, state: &mut State, planted: Planted) -> Option<Tu
 /// "2. If a column command is due, it goes out. Otherwise the head of the
 /// owner's queue is activated and leaves the queue, if the offset in the turn
 /// allows it and all gaps are met."
-fn drive_wires(policy: &Policy, state: &mut State) -> Wires {
+fn drive_wires(policy: &Policy, state: &mut State, planted: Planted) -> Wires {
     if let Some(request) = take_due(&mut state.columns, state.cycle) {
         return Wires::Column(request);
     }
@@ -140,6 +154,10 @@ fn drive_wires(policy: &Policy, state: &mut State) -> Wires {
     if !gap_of_all_met(policy, state, &head, state.cycle)
         || !bank_gap_met(policy, state, &head, state.cycle)
     {
+        return Wires::Nothing;
+    }
+    // Not a rule: a leak that tests plant.
+    if planted == Planted::BankAgeInEightBits && !bank_gap_met_in_8_bits(policy, state, &head) {
         return Wires::Nothing;
     }
     state.classes[state.owner].queue.pop_front();
@@ -221,4 +239,17 @@ fn reclaim_turn(policy: &Policy, state: &mut State) {
         state.owner = least;
         state.classes[least].left -= 1;
     }
+}
+
+/// For [`Planted::SharedPoolOf120`] only.
+fn waiting_of_all(state: &State) -> usize {
+    state.classes.iter().map(|class| class.queue.len()).sum()
+}
+
+/// For [`Planted::BankAgeInEightBits`] only.
+fn bank_gap_met_in_8_bits(policy: &Policy, state: &State, request: &Request) -> bool {
+    state.last_of_bank[usize::from(request.bank)].is_none_or(|last| {
+        let age = (state.cycle - last.cycle) as u8;
+        age >= policy.timing.bank_gaps[last.kind as usize]
+    })
 }

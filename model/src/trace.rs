@@ -118,20 +118,38 @@ pub fn run_planted(
     check_range(policy, state)?;
     // 15: "log shorter than 4 times the trace".
     if log.len() < LINE * trace.len() {
+        // Not a rule: a leak that tests plant.
+        if planted == Planted::RefusedRunMakesItsCalls {
+            for &number in trace {
+                run_line(policy, state, number, planted);
+            }
+        }
         return Err(Refusal::LogTooShort);
     }
     for (&number, line) in trace.iter().zip(log.chunks_exact_mut(LINE)) {
         line.copy_from_slice(&run_line(policy, state, number, planted));
+    }
+    // Not a rule: a leak that tests plant.
+    let last = trace.last().map(|&number| Word::of(number));
+    if planted == Planted::RunAnswersForItsLastWord && last == Some(Word::Malformed) {
+        return Err(Refusal::Malformed);
     }
     Ok(())
 }
 
 /// One trace number of a run. "A run goes on after a refused line"; "9 to 12 and
 /// 14 inside a run write their log line".
-fn run_line(policy: &Policy, state: &mut State, number: u32, planted: Planted) -> [u32; LINE] {
+pub(crate) fn run_line(
+    policy: &Policy,
+    state: &mut State,
+    number: u32,
+    planted: Planted,
+) -> [u32; LINE] {
     let line = match Word::of(number) {
         Word::Tick => tick_in_range(policy, state, planted).map(|record| tick_line(&record)),
-        Word::Offer(request) => offer_in_range(policy, state, request).map(|()| status_line(0)),
+        Word::Offer(request) => {
+            offer_in_range(policy, state, request, planted).map(|()| status_line(0))
+        }
         Word::Malformed => Err(Refusal::Malformed),
     };
     line.unwrap_or_else(|refusal| status_line(refusal.number()))

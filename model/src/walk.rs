@@ -41,7 +41,16 @@ fn try_class(policy: &Policy, state: &mut State, class: usize, planted: Planted)
 /// is tried in the same way."
 fn ascend(policy: &Policy, state: &mut State, class: usize, planted: Planted) -> usize {
     match named_cover(policy, class, state.classes[class].pointer) {
-        Some(cover) => try_class(policy, state, cover, planted),
+        Some(cover) => {
+            let before = state.classes[cover].pointer;
+            let owner = try_class(policy, state, cover, planted);
+            // Not a rule: a leak that tests plant.
+            let back_to_1 = before > 0 && state.classes[cover].pointer == 1;
+            if planted == Planted::MarkCarried && back_to_1 {
+                state.classes[class].pointer = moved_pointer(policy, state, class);
+            }
+            owner
+        }
         // Not met: a class with a cover has just moved its pointer to one.
         None => class,
     }

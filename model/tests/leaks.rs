@@ -1,25 +1,41 @@
 //! "Two lists side by side": the search for leaks finds every planted one and
 //! none in the model as it is.
 
-use vigambul_model::leaks::{self, search, search_planted, ORDINARY_PAIRS};
+use std::sync::OnceLock;
+
+use vigambul_model::altered::Altered;
+use vigambul_model::leaks::{
+    self, check_altered, search, search_planted, Check, Search, ORDINARY_PAIRS,
+};
 use vigambul_model::planted::Planted;
 
-/// The pair that shows a planted leak, which must exist.
-fn finds(planted: Planted) {
-    let search = search_planted(ORDINARY_PAIRS, planted);
+/// Every planted leak must show in so many pairs: far fewer than those in which
+/// the model as it is shows none.
+const PAIRS_ENOUGH: u64 = ORDINARY_PAIRS / 10;
+
+/// A planted leak must be found.
+fn finds(planted: Planted) -> Option<Check> {
+    let search = search_planted(PAIRS_ENOUGH, planted);
     println!(
         "{planted:?} after {} pairs: {:?}",
         search.pairs, search.leak
     );
     assert!(
         search.leak.is_some(),
-        "{planted:?} was not found in {ORDINARY_PAIRS} pairs"
+        "{planted:?} was not found in {PAIRS_ENOUGH} pairs"
     );
+    search.leak.map(|leak| leak.check)
+}
+
+/// The search of the model as it is, made once for all tests that ask.
+fn ordinary_search() -> &'static Search {
+    static SEARCH: OnceLock<Search> = OnceLock::new();
+    SEARCH.get_or_init(|| search(ORDINARY_PAIRS))
 }
 
 #[test]
 fn the_model_as_it_is_shows_no_leak() {
-    let search = search(ORDINARY_PAIRS);
+    let search = ordinary_search();
     println!("{}", search.report());
     assert_eq!(search.leak, None, "replay it with leaks::pair(seed)");
     assert_eq!(search.pairs, ORDINARY_PAIRS);
@@ -27,12 +43,20 @@ fn the_model_as_it_is_shows_no_leak() {
 
 #[test]
 fn the_search_covers_what_it_must() {
-    let search = search(ORDINARY_PAIRS);
+    let search = ordinary_search();
     // Pairs whose logs are the same for everybody show nothing.
     assert!(search.pairs_with_different_logs > ORDINARY_PAIRS / 2);
     assert!(search.pairs_without_neighbours > 0);
-    assert!(search.lists_cut_into_runs > 100);
-    assert!(search.lists_cut_into_single_calls > 100);
+    assert!(search.pairs_of_sixteen_classes > ORDINARY_PAIRS / 6);
+    assert!(search.pairs_with_another_least_class_than_0 > ORDINARY_PAIRS / 2);
+    assert!(search.pairs_past_an_epoch_above_5 > ORDINARY_PAIRS / 20);
+    assert!(search.pairs_past_an_epoch_above_16 > ORDINARY_PAIRS / 100);
+    assert!(search.pairs_with_turns_above_239 > ORDINARY_PAIRS / 100);
+    assert!(search.most_ticks >= 4_000);
+    assert!(search.lists_with_an_open_end > ORDINARY_PAIRS / 4);
+    assert!(search.offers_to_full_queues > ORDINARY_PAIRS);
+    assert!(search.lists_cut_into_runs > ORDINARY_PAIRS / 10);
+    assert!(search.lists_cut_into_single_calls > ORDINARY_PAIRS / 20);
     assert!(search.seen_activates > 8 * ORDINARY_PAIRS);
     assert!(search.seen_turns > ORDINARY_PAIRS);
     assert!(search.hidden_turns > ORDINARY_PAIRS);
@@ -78,4 +102,90 @@ fn finds_a_higher_class_that_is_asked_first() {
 #[test]
 fn finds_a_turn_that_is_reclaimed() {
     finds(Planted::TurnReclaimed);
+}
+
+#[test]
+fn finds_a_trial_walk_that_forgets_the_end_of_a_long_epoch() {
+    finds(Planted::EpochEndForgottenAboveFive);
+}
+
+#[test]
+fn finds_dead_time_that_is_always_dropped_in_long_turns() {
+    finds(Planted::AlwaysElidedInLongTurns);
+}
+
+#[test]
+fn finds_a_bank_age_of_8_bits() {
+    finds(Planted::BankAgeInEightBits);
+}
+
+#[test]
+fn finds_a_trial_walk_that_forgets_incomparable_classes_for_owner_15() {
+    finds(Planted::IncomparableForgottenForOwner15);
+}
+
+#[test]
+fn finds_a_pool_of_requests_that_all_classes_share() {
+    finds(Planted::SharedPoolOf120);
+}
+
+#[test]
+fn finds_a_mark_that_moves_a_lower_classs() {
+    finds(Planted::MarkCarried);
+}
+
+#[test]
+fn finds_a_run_that_answers_for_its_last_word() {
+    let check = finds(Planted::RunAnswersForItsLastWord);
+    assert_eq!(check, Some(Check::Run));
+}
+
+#[test]
+fn finds_a_refused_run_that_makes_its_calls() {
+    finds(Planted::RefusedRunMakesItsCalls);
+}
+
+/// Each change in what is compared, and the one comparison that can tell it.
+const ALTERED: [(Altered, Option<Check>); 19] = [
+    (Altered::Nothing, None),
+    (Altered::RunRefused, Some(Check::Run)),
+    (Altered::ExtractRefused, Some(Check::Refusal)),
+    (Altered::Count, Some(Check::Count)),
+    (Altered::Status, Some(Check::Status)),
+    (Altered::Command, Some(Check::Command)),
+    (Altered::Answer, Some(Check::Answer)),
+    (Altered::SeenTurn, Some(Check::Turn)),
+    (Altered::HiddenTurn, Some(Check::Turn)),
+    (Altered::PastTheCount, Some(Check::PastTheCount)),
+    (Altered::ShortRoomTaken, Some(Check::Room)),
+    (Altered::ShortRoomWritten, Some(Check::Room)),
+    (Altered::JustRoomRefused, Some(Check::Room)),
+    (Altered::QueueLength, Some(Check::Queue)),
+    (Altered::QueueOrder, Some(Check::Queue)),
+    (Altered::QueuedRequest, Some(Check::Queue)),
+    (Altered::TurnsLeft, Some(Check::TurnsLeft)),
+    (Altered::Mark, Some(Check::Mark)),
+    (Altered::HiddenParts, None),
+];
+
+/// How many of some pairs can be changed so. In each that can, the one
+/// comparison must tell.
+fn count_told(altered: Altered, check: Option<Check>) -> usize {
+    let told = |&seed: &u64| match check_altered(seed, altered) {
+        None => false,
+        Some(fired) => {
+            assert_eq!(fired, check, "{altered:?}, seed {seed}");
+            true
+        }
+    };
+    (0..200).filter(told).count()
+}
+
+#[test]
+fn each_comparison_is_made_and_tells_what_it_alone_can_tell() {
+    for (altered, check) in ALTERED {
+        let count = count_told(altered, check);
+        println!("{altered:?}: told by {check:?} in {count} of 200 pairs");
+        assert!(count > 50 || altered == Altered::Nothing, "{altered:?}");
+    }
 }

@@ -1,55 +1,33 @@
-//! 12, "a tick after 16,777,215 ticks", through the library.
+//! Runs up to the last tick, number 16,777,214, and past it, where ticks get 12:
+//! through the library and through the program, under several policies.
 
 mod common;
 
 use common::*;
 use vigambul_compare::library;
-use vigambul_model::policy;
-use vigambul_model::state::{self, LAST_CYCLE};
+use vigambul_model::policy::Policy;
+use vigambul_model::state;
 use vigambul_model::trace::{self, LINE};
 
 const FILLER: u32 = 0x5AA5_5AA5;
-/// Trace numbers between two offers.
-const BETWEEN_OFFERS: usize = 1_000;
 
-/// Ticks with an offer here and there, up to the last that is not refused.
-fn ticks_to_the_last() -> Vec<u32> {
-    let ticks = LAST_CYCLE as usize;
-    let mut numbers = Vec::with_capacity(ticks + ticks / BETWEEN_OFFERS + 100);
-    for tick in 0..ticks {
-        // Near the end they come thick, so that commands and answers are in
-        // flight when the ticks run out.
-        if tick % BETWEEN_OFFERS == 0 || tick + 40 > ticks {
-            let class = (tick / BETWEEN_OFFERS % 4) as u32;
-            let [kind, bank, tag] = [tick / 3 % 2, tick / 5 % 8, tick % 65_536];
-            let offer = 1 << 31 | class << 24 | (kind << 20 | bank << 16 | tag) as u32;
-            numbers.push(offer);
-        }
-        numbers.push(0);
-    }
+/// The numbers after the last tick. "A run goes on after a refused line", and
+/// each call still gets its own number: 12, 14, 9, 10, and 11 once a queue is
+/// full.
+fn numbers_past_the_last_tick(policy: &Policy) -> Vec<u32> {
+    let no_class = 0x8000_0000 | (policy.class_count() as u32) << 24;
+    let mut numbers = vec![0, 0, 1, no_class, 0x8008_0000, 0];
+    numbers.extend([0x8000_0001; 9]);
+    numbers.extend([0, 0]);
     numbers
 }
 
-#[test]
-fn the_tick_after_16_777_215_ticks_is_refused_and_the_run_goes_on() {
-    let file = diamond();
-    let (policy, refusal) = policy::read(&file);
-    assert_eq!(refusal, None);
-    let mut numbers = ticks_to_the_last();
-    let before = numbers.len();
-    // A run goes on after a refused line, and each call still gets its own
-    // number: 12, 14, 9, 10, and 11 once a queue is full.
-    numbers.extend([0, 0, 1, 0x8400_0000, 0x8008_0000, 0]);
-    numbers.extend([0x8200_0001; 9]);
-    numbers.extend([0, 0]);
-
-    let mut log = vec![FILLER; LINE * numbers.len() + 1];
-    assert_eq!(library::run(&file, &numbers, &mut log), 0);
-    assert_eq!(log.pop(), Some(FILLER), "a number past the log");
-
-    let last_tick = &log[LINE * (before - 1)..LINE * before];
+/// What is known of the log after the last tick, whatever stood before it.
+fn check_past_the_last_tick(log: &[u32], ticks: usize) {
+    let (before, after) = log.split_at(LINE * ticks);
+    let last_tick = &before[before.len() - LINE..];
     assert_eq!(last_tick[0], 0, "tick number 16,777,214 is not refused");
-    let statuses: Vec<u32> = log[LINE * before..]
+    let statuses: Vec<u32> = after
         .chunks_exact(LINE)
         .map(|line| {
             assert_eq!(line[1..], [0, 0, 0]);
@@ -58,14 +36,42 @@ fn the_tick_after_16_777_215_ticks_is_refused_and_the_run_goes_on() {
         .collect();
     assert_eq!(statuses[..6], [12, 12, 14, 9, 10, 12]);
     assert_eq!(statuses[14..], [11, 12, 12]);
+}
 
-    // The whole log, in blocks, since a second one would need as much memory.
-    let (mut state, _) = state::fresh(&policy);
-    let mut expected = vec![0; LINE * 65_536];
-    let blocks = numbers.chunks(65_536).zip(log.chunks(LINE * 65_536));
-    for (place, (block, written)) in blocks.enumerate() {
-        let expected = &mut expected[..LINE * block.len()];
-        assert_eq!(trace::run(&policy, &mut state, block, expected), Ok(()));
-        assert!(written == expected, "block {place} of 65,536 numbers");
+#[test]
+fn the_tick_after_16_777_215_ticks_is_refused_and_the_run_goes_on() {
+    for (seed, (name, file)) in (0..).zip(long::policies()) {
+        let policy = accepted(&file);
+        let mut numbers = long::numbers_to_the_last_tick(seed, &file);
+        let ticks = numbers.len();
+        numbers.extend(numbers_past_the_last_tick(&policy));
+        let mut log = vec![FILLER; LINE * numbers.len() + 1];
+        assert_eq!(library::run(&file, &numbers, &mut log), 0, "{name}");
+        assert_eq!(log.pop(), Some(FILLER), "{name}: a number past the log");
+        check_past_the_last_tick(&log, ticks);
+
+        // The whole log, in blocks, since a second one would need as much memory.
+        let (mut state, _) = state::fresh(&policy);
+        let mut expected = vec![0; LINE * 65_536];
+        let blocks = numbers.chunks(65_536).zip(log.chunks(LINE * 65_536));
+        for (place, (block, written)) in blocks.enumerate() {
+            let expected = &mut expected[..LINE * block.len()];
+            assert_eq!(trace::run(&policy, &mut state, block, expected), Ok(()));
+            assert!(
+                written == expected,
+                "{name}: block {place} of 65,536 numbers"
+            );
+        }
+    }
+}
+
+#[test]
+fn the_program_prints_every_line_to_the_last_tick_and_past_it() {
+    for (seed, (name, file)) in (4..).zip(long::policies()) {
+        let mut numbers = long::numbers_to_the_last_tick(seed, &file);
+        numbers.extend(numbers_past_the_last_tick(&accepted(&file)));
+        println!("{name}");
+        let memory = stream_program(&format!("last-tick-{seed}"), &file, &numbers);
+        assert!(memory < MOST_MEMORY, "{name}: {memory} KiB");
     }
 }

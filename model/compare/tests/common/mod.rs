@@ -2,8 +2,11 @@
 
 #![allow(dead_code)] // each test file uses its own part
 
+pub mod long;
+
 use std::collections::BTreeMap;
 use std::fs;
+use std::io::Read;
 use std::ops::Range;
 use std::path::{Path, PathBuf};
 use std::process::{Child, Command, ExitStatus, Output, Stdio};
@@ -11,10 +14,10 @@ use std::sync::mpsc::{self, RecvTimeoutError};
 use std::thread;
 use std::time::{Duration, Instant};
 
-use vigambul_compare::built;
+use vigambul_compare::{built, stream};
 use vigambul_model::coverage::Coverage;
 use vigambul_model::generate::{self, PolicyFields};
-use vigambul_model::policy;
+use vigambul_model::policy::{self, Policy};
 use vigambul_model::program::HEADER;
 use vigambul_model::random::Random;
 use vigambul_model::state;
@@ -24,6 +27,9 @@ use vigambul_model::trace::{self, LINE};
 /// says otherwise.
 const FIRST_SEED: u64 = 1_000_000;
 const FOLDERS: u64 = 2_500;
+
+/// In KiB, what no run of the program may need.
+pub const MOST_MEMORY: u64 = 64 * 1024;
 
 /// No run of the program in a test takes nearly as long.
 pub const LONGEST_RUN: Duration = Duration::from_secs(30);
@@ -238,17 +244,24 @@ pub fn model_log(policy_file: &[u8], numbers: &[u32]) -> Result<Vec<u32>, u32> {
     Ok(log)
 }
 
-/// 0 below 1 and 2, both below 3; turns of 16.
+/// A policy file that must be accepted, as the model reads it.
+pub fn accepted(policy_file: &[u8]) -> Policy {
+    let (policy, refusal) = policy::read(policy_file);
+    assert_eq!(refusal, None, "the file must be accepted");
+    policy
+}
+
+/// 2 below 0 and 3, both below 1. Turns of 17 and epochs of 7 put whatever goes
+/// by cycles or turns out of step with every power of two.
 pub fn diamond() -> Vec<u8> {
-    let rows = [0b1111, 0b1010, 0b1100, 0b1000];
-    let timing = [16, 6, 2, 3, 3, 2, 4, 6, 2, 5];
-    PolicyFields::new(&rows, 8, &[1, 2, 2, 1], timing).encode()
+    let rows = [0b0011, 0b0010, 0b1111, 0b1010];
+    let timing = [17, 6, 2, 3, 3, 2, 4, 6, 2, 5];
+    PolicyFields::new(&rows, 7, &[2, 1, 1, 2], timing).encode()
 }
 
 /// A generated trace of exactly so many numbers for a policy file.
 pub fn generated_trace(seed: u64, policy_file: &[u8], length: usize) -> Vec<u32> {
-    let (policy, refusal) = policy::read(policy_file);
-    assert_eq!(refusal, None);
+    let policy = accepted(policy_file);
     generate::trace_of_length(&mut Random::new(seed), &policy, length)
 }
 
@@ -329,6 +342,61 @@ pub fn run_program(folder: &Folder) -> Output {
     drop(ended);
     watch.join().expect("the watch ends");
     output
+}
+
+/// Runs the built program on a long trace, compares every line on the way with
+/// the model's, and gives the most memory that the program held, in KiB.
+pub fn stream_program(name: &str, policy_file: &[u8], numbers: &[u32]) -> u64 {
+    let folder = Folder::new(name);
+    folder.put_both(policy_file, &trace_file(numbers));
+    let mut child = command_in(built::program(), &folder)
+        .stdout(Stdio::piped())
+        .stderr(Stdio::piped())
+        .spawn()
+        .expect("the program starts");
+    let mut printed = child.stdout.take().expect("its output");
+    let mut header = vec![0; HEADER.len()];
+    printed.read_exact(&mut header).expect("the header");
+    assert_eq!(header, HEADER);
+
+    let policy = accepted(policy_file);
+    let (mut state, _) = state::fresh(&policy);
+    let block = 4_096;
+    let mut log = vec![0; block * LINE];
+    let mut text = vec![0; block * stream::TEXT_LINE];
+    let mut expected = text.clone();
+    let mut peak = 0;
+    for (place, numbers) in numbers.chunks(block).enumerate() {
+        // The pipe holds far less than a block, so the program waits to write
+        // while it is asked how much memory it holds: it has not ended yet.
+        peak = peak.max(memory_of(child.id()).unwrap_or(0));
+        let text = &mut text[..numbers.len() * stream::TEXT_LINE];
+        printed.read_exact(text).expect("a line for each number");
+        let log = &mut log[..numbers.len() * LINE];
+        assert_eq!(trace::run(&policy, &mut state, numbers, log), Ok(()));
+        let expected = &mut expected[..text.len()];
+        let lines = expected.chunks_exact_mut(stream::TEXT_LINE);
+        for (line, numbers) in lines.zip(log.chunks_exact(LINE)) {
+            let numbers = numbers.try_into().expect("a line's numbers");
+            stream::put_line(line, numbers);
+        }
+        let first_line = place * block;
+        assert_eq!(same_text(text, expected), Ok(()), "after line {first_line}");
+    }
+    let mut rest = Vec::new();
+    printed.read_to_end(&mut rest).expect("the end");
+    assert_eq!(rest, b"", "nothing after the last line");
+    wait_for_end(&mut child);
+    assert!(peak > 0, "the memory of the program was never seen");
+    println!("{} numbers: {peak} KiB", numbers.len());
+    peak
+}
+
+/// The most memory that a running program has held, in KiB.
+fn memory_of(id: u32) -> Option<u64> {
+    let status = fs::read_to_string(format!("/proc/{id}/status")).ok()?;
+    let line = status.lines().find(|line| line.starts_with("VmHWM:"))?;
+    line.split_whitespace().nth(1)?.parse().ok()
 }
 
 /// Whether the built program prints exactly what is expected in a folder, and

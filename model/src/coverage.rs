@@ -4,25 +4,27 @@
 use std::collections::BTreeMap;
 
 use crate::dead_time::{lookahead, offset_allows, turns_left_before_next, Lookahead, TurnsLeft};
-use crate::generate::Folder;
+use crate::generate::{Folder, DAMAGES};
 use crate::planted::Planted;
 use crate::policy::{self, Policy, LONGEST_EPOCH, LONGEST_FILE, MOST_CLASSES, SHORTEST_FILE};
 use crate::program::read_trace;
 use crate::refusal::Refusal;
-use crate::state::{self, Request, State, QUEUE_LIMIT};
+use crate::state::{self, Kind, Request, State, QUEUE_LIMIT};
 use crate::tick::{
     bank_gap_met, gap_of_all_met, offer_in_range, offset, tick_in_range, turn_number, TickRecord,
     Wires,
 };
-use crate::trace::Word;
+use crate::trace::{Word, OFFER_BIT, STRAY_BITS};
 
 /// The refusals that a folder can give. 12 needs 16,777,215 ticks, and 13 and
 /// 15 to 17 need calls that the program does not make.
 const REFUSALS: [u32; 12] = [1, 2, 3, 4, 5, 6, 7, 8, 9, 10, 11, 14];
 
-/// Everything that is counted besides refusals, class counts and left-over
-/// bytes.
-const CASES: [&str; 42] = [
+/// Each kind of damage must be met so often: once may be by luck.
+const FAIR: u64 = 5;
+
+/// Everything else that is counted.
+const CASES: [&str; 53] = [
     "file under 17 bytes",
     "file above 65,535 bytes",
     "least class not 0",
@@ -43,6 +45,10 @@ const CASES: [&str; 42] = [
     "column delay one less than the answer delay",
     "turn starts",
     "epoch starts after the first",
+    "the end of an epoch of 7 to 16 turns",
+    "the end of an epoch of 17 to 64 turns",
+    "a chain of sixteen walked to its top",
+    "a mark that goes back to 1 from fifteen children",
     "dropped, the owner is the least class",
     "dropped, the trial walk passes classes without turns left",
     "kept, a class may not flow to the owner",
@@ -54,22 +60,37 @@ const CASES: [&str; 42] = [
     "offers taken just after a turn has started",
     "offers of a bank above 7 alone",
     "offers of a kind above 1 alone",
+    "9 before 10",
+    "10 before 11",
     "a queue filled up",
     "50 ticks in a row",
+    "100 numbers without a tick",
     "activates",
     "activates in a dead time that is dropped",
     "columns",
     "answers",
     "columns in the turn of another owner",
     "held back by a due column alone",
-    "held back by the gap of all alone",
-    "held back by the same-bank gap alone",
+    "held back by the gap read-read alone",
+    "held back by the gap read-write alone",
+    "held back by the gap write-read alone",
+    "held back by the gap write-write alone",
+    "held back by the same-bank gap after a read alone",
+    "held back by the same-bank gap after a write alone",
     "held back by the dead time alone",
 ];
 
 /// How often each case was met.
 pub struct Coverage {
-    counts: BTreeMap<String, u64>,
+    counts: BTreeMap<String, Count>,
+}
+
+/// How often a case was met.
+#[derive(Clone, Copy, Debug, PartialEq, Eq)]
+pub struct Count {
+    pub met: u64,
+    /// How often it must be met.
+    pub needed: u64,
 }
 
 impl Default for Coverage {
@@ -81,25 +102,38 @@ impl Default for Coverage {
 impl Coverage {
     /// Every case, met 0 times.
     pub fn new() -> Coverage {
-        let refusals = REFUSALS.iter().map(|&number| refusal_name(number));
-        let classes = (1..=MOST_CLASSES).map(classes_name);
-        let left_over = (0..4).map(left_over_name);
-        let cases = CASES.iter().map(|name| name.to_string());
-        let names = refusals.chain(classes).chain(left_over).chain(cases);
+        let once = (REFUSALS.iter().map(|&number| refusal_name(number)))
+            .chain((1..=MOST_CLASSES).map(classes_name))
+            .chain((0..4).map(left_over_name))
+            .chain((1..=7).map(second_fault_name))
+            .chain((0..31).map(lone_bit_name))
+            .chain(STRAY_BITS.iter().map(|&bit| stray_bit_name(bit)))
+            .chain((16..32).map(high_class_name))
+            .chain(CASES.iter().map(|name| name.to_string()))
+            .map(|name| (name, Count { met: 0, needed: 1 }));
+        let damages = DAMAGES.iter().map(|damage| {
+            let needed = FAIR;
+            (damage_name(damage.name), Count { met: 0, needed })
+        });
         Coverage {
-            counts: names.map(|name| (name, 0)).collect(),
+            counts: once.chain(damages).collect(),
         }
     }
 
     /// Each case with its count.
-    pub fn counts(&self) -> impl Iterator<Item = (&str, u64)> {
+    pub fn counts(&self) -> impl Iterator<Item = (&str, Count)> {
         self.counts
             .iter()
             .map(|(name, &count)| (name.as_str(), count))
     }
 
+    /// Counts a case. One that [`Coverage::new`] does not name would be counted
+    /// and never required.
     fn met(&mut self, name: &str) {
-        *self.counts.entry(name.to_string()).or_insert(0) += 1;
+        match self.counts.get_mut(name) {
+            Some(count) => count.met += 1,
+            None => panic!("`{name}` is not among the cases"),
+        }
     }
 
     fn met_if(&mut self, condition: bool, name: &str) {
@@ -113,9 +147,15 @@ impl Coverage {
         let length = folder.policy.len();
         self.met_if(length < SHORTEST_FILE, "file under 17 bytes");
         self.met_if(length > LONGEST_FILE, "file above 65,535 bytes");
+        if let Some(damage) = folder.damage {
+            self.met(&damage_name(damage));
+        }
         let (policy, refusal) = policy::read(&folder.policy);
         if let Some(refusal) = refusal {
-            return self.met(&refusal_name(refusal.number()));
+            let number = refusal.number();
+            let several = policy::all_refusals(&folder.policy).len() > 1;
+            self.met_if(several, &second_fault_name(number));
+            return self.met(&refusal_name(number));
         }
         self.add_policy(&policy);
         let trace = read_trace(&folder.trace);
@@ -124,11 +164,12 @@ impl Coverage {
         for &number in &trace.numbers {
             self.add_call(&policy, &mut state, number);
         }
-        let idle = trace
-            .numbers
-            .windows(50)
-            .filter(|window| window.iter().all(|&n| n == 0));
-        self.met_if(idle.count() > 0, "50 ticks in a row");
+        let in_a_row = |length: usize, tick: bool| {
+            let mut windows = trace.numbers.windows(length);
+            windows.any(|window| window.iter().all(|&n| (n == 0) == tick))
+        };
+        self.met_if(in_a_row(50, true), "50 ticks in a row");
+        self.met_if(in_a_row(100, false), "100 numbers without a tick");
     }
 
     fn add_policy(&mut self, policy: &Policy) {
@@ -171,23 +212,57 @@ impl Coverage {
 
     fn add_call(&mut self, policy: &Policy, state: &mut State, number: u32) {
         match Word::of(number) {
-            Word::Tick => match tick_in_range(policy, state, Planted::Nothing) {
-                Ok(record) => self.add_tick(policy, state, &record),
-                Err(refusal) => self.met(&refusal_name(refusal.number())),
-            },
+            Word::Tick => {
+                let mark = state.classes[policy.least()].pointer;
+                match tick_in_range(policy, state, Planted::Nothing) {
+                    Ok(record) => self.add_tick(policy, state, &record, mark),
+                    Err(refusal) => self.met(&refusal_name(refusal.number())),
+                }
+            }
             Word::Offer(request) => {
                 match offer_in_range(policy, state, request, Planted::Nothing) {
                     Ok(()) => self.add_taken(policy, state, &request),
-                    Err(refusal) => {
-                        self.met(&refusal_name(refusal.number()));
-                        let [bank, kind] = [request.bank > 7, request.kind > 1];
-                        let class = refusal == Refusal::Class;
-                        self.met_if(!class && bank && !kind, "offers of a bank above 7 alone");
-                        self.met_if(!class && kind && !bank, "offers of a kind above 1 alone");
-                    }
+                    Err(refusal) => self.add_refused(policy, state, &request, refusal),
                 }
             }
-            Word::Malformed => self.met(&refusal_name(14)),
+            Word::Malformed => {
+                self.met(&refusal_name(14));
+                self.add_malformed(policy, number);
+            }
+        }
+    }
+
+    fn add_refused(&mut self, policy: &Policy, state: &State, request: &Request, by: Refusal) {
+        self.met(&refusal_name(by.number()));
+        let [bank, kind] = [request.bank > 7, request.kind > 1];
+        if by == Refusal::Class {
+            self.met_if(bank || kind, "9 before 10");
+            // In four bits it would be a class.
+            let high =
+                request.class >= 16 && usize::from(request.class - 16) < policy.class_count();
+            self.met_if(high && !bank && !kind, &high_class_name(request.class));
+            return;
+        }
+        self.met_if(bank && !kind, "offers of a bank above 7 alone");
+        self.met_if(kind && !bank, "offers of a kind above 1 alone");
+        let waiting = state.classes[usize::from(request.class)].queue.len();
+        let full = waiting == QUEUE_LIMIT;
+        self.met_if(by == Refusal::BankOrKind && full, "10 before 11");
+    }
+
+    /// Counts a malformed word that one bit makes so.
+    fn add_malformed(&mut self, policy: &Policy, number: u32) {
+        self.met_if(
+            number.is_power_of_two(),
+            &lone_bit_name(number.trailing_zeros()),
+        );
+        for bit in STRAY_BITS {
+            // Without the bit it would be an offer that is not refused for itself.
+            let sound = match Word::of(number ^ 1 << bit) {
+                Word::Offer(request) => request.refused_by(policy).is_none(),
+                _ => false,
+            };
+            self.met_if(number & OFFER_BIT != 0 && sound, &stray_bit_name(bit));
         }
     }
 
@@ -204,11 +279,19 @@ impl Coverage {
         self.met_if(waiting == QUEUE_LIMIT, "a queue filled up");
     }
 
-    /// Counts a tick by its record and the state after it.
-    fn add_tick(&mut self, policy: &Policy, state: &State, record: &TickRecord) {
+    /// Counts a tick by its record, the state after it, and the mark of the least
+    /// class before it.
+    fn add_tick(&mut self, policy: &Policy, state: &State, record: &TickRecord, mark: usize) {
         let cycle = state.cycle - 1;
         if record.turn.is_some() {
             self.add_turn(policy, state, turn_number(policy, cycle));
+            let least = policy.least();
+            let back = mark == 15 && state.classes[least].pointer == 1;
+            let fifteen = policy.covers_of(least).len() == 15;
+            self.met_if(
+                fifteen && back,
+                "a mark that goes back to 1 from fifteen children",
+            );
         }
         let offset = offset(policy, cycle);
         match record.wires {
@@ -246,8 +329,22 @@ impl Coverage {
         let bank_gap = !bank_gap_met(policy, state, head, cycle);
         match [column, gap_of_all, bank_gap, dead_time] {
             [true, false, false, false] => self.met("held back by a due column alone"),
-            [false, true, false, false] => self.met("held back by the gap of all alone"),
-            [false, false, true, false] => self.met("held back by the same-bank gap alone"),
+            [false, true, false, false] => {
+                let kinds = state.last_activate.map(|last| (last.kind, head.kind()));
+                self.met(match kinds {
+                    Some((Kind::Read, Kind::Read)) => "held back by the gap read-read alone",
+                    Some((Kind::Read, Kind::Write)) => "held back by the gap read-write alone",
+                    Some((Kind::Write, Kind::Read)) => "held back by the gap write-read alone",
+                    _ => "held back by the gap write-write alone",
+                });
+            }
+            [false, false, true, false] => {
+                let last = state.last_of_bank[usize::from(head.bank)];
+                self.met(match last.map(|last| last.kind) {
+                    Some(Kind::Read) => "held back by the same-bank gap after a read alone",
+                    _ => "held back by the same-bank gap after a write alone",
+                });
+            }
             [false, false, false, true] => self.met("held back by the dead time alone"),
             _ => {}
         }
@@ -257,9 +354,20 @@ impl Coverage {
     /// owner, pointers and turns left that the trial walk went by.
     fn add_turn(&mut self, policy: &Policy, state: &State, turn: u32) {
         self.met("turn starts");
+        if turn > 0 && turn % u32::from(policy.epoch) == 0 {
+            self.met("epoch starts after the first");
+            match policy.epoch {
+                0..=6 => {}
+                7..=16 => self.met("the end of an epoch of 7 to 16 turns"),
+                _ => self.met("the end of an epoch of 17 to 64 turns"),
+            }
+        }
+        // With a least class and one child at most, all are in a row.
+        let children = |class: usize| policy.covers_of(class).len();
+        let in_a_row = (0..policy.class_count()).all(|class| children(class) <= 1);
         self.met_if(
-            turn > 0 && turn % u32::from(policy.epoch) == 0,
-            "epoch starts after the first",
+            in_a_row && policy.class_count() == MOST_CLASSES && children(state.owner) == 0,
+            "a chain of sixteen walked to its top",
         );
         let by = turns_left_before_next(policy, turn);
         let outcome = lookahead(policy, state, by);
@@ -295,4 +403,28 @@ fn classes_name(n: usize) -> String {
 
 fn left_over_name(count: usize) -> String {
     format!("left-over bytes {count}")
+}
+
+/// A file that this number refuses, and a later one too.
+fn second_fault_name(number: u32) -> String {
+    format!("{number} before another")
+}
+
+fn damage_name(name: &str) -> String {
+    format!("damage: {name}")
+}
+
+/// A number of this bit alone.
+fn lone_bit_name(bit: u32) -> String {
+    format!("bit {bit:02} alone")
+}
+
+/// An offer that this bit alone makes malformed.
+fn stray_bit_name(bit: u32) -> String {
+    format!("an offer with bit {bit}")
+}
+
+/// An offer of a class that no policy has, but sound apart from it.
+fn high_class_name(class: u8) -> String {
+    format!("class number {class}")
 }

@@ -3,19 +3,26 @@
 use crate::policy::{self, Policy, LONGEST_EPOCH, MOST_CLASSES, TIMING_LENGTH};
 use crate::random::Random;
 use crate::state::{Request, QUEUE_LIMIT};
-use crate::trace::offer_word;
+use crate::trace::{offer_word, STRAY_BITS};
 
 /// The two files that the program reads.
 #[derive(Clone, Debug, PartialEq, Eq)]
 pub struct Folder {
     pub policy: Vec<u8>,
     pub trace: Vec<u8>,
+    /// The name in [`DAMAGES`] of what was done to the policy, if it was.
+    pub damage: Option<&'static str>,
 }
 
-/// A folder made from a seed. About one policy in four is damaged.
+/// A folder made from a seed. One policy in four is damaged on purpose, and each
+/// kind of damage has its turn; some others are damaged by chance.
 pub fn folder(seed: u64) -> Folder {
     let random = &mut Random::new(seed);
-    let policy = policy_file(random);
+    let damage = (seed % 4 == 0).then(|| &DAMAGES[(seed / 4) as usize % DAMAGES.len()]);
+    let policy = match damage {
+        Some(damage) => (damage.file)(random),
+        None => policy_file(random),
+    };
     let trace = match policy::read(&policy) {
         (policy, None) => trace_numbers(random, &policy),
         // The program does not look at it; it must be there all the same.
@@ -30,17 +37,14 @@ pub fn folder(seed: u64) -> Folder {
     Folder {
         policy,
         trace: bytes,
+        damage: damage.map(|damage| damage.name),
     }
 }
 
 fn policy_file(random: &mut Random) -> Vec<u8> {
-    match random.below(40) {
-        0..=8 => {
-            let place = random.below(DAMAGES.len());
-            (DAMAGES[place].file)(random)
-        }
-        9 => damaged_twice(random),
-        10 => flipped_bit(random),
+    match random.below(30) {
+        0..=2 => damaged_twice(random),
+        3 => flipped_bit(random),
         _ => sound_fields(random).encode(),
     }
 }
@@ -101,7 +105,8 @@ pub fn encode_bodies(order: &[u8], turns: &[u8], timing: &[u8]) -> Vec<u8> {
 
 /// A policy that no number refuses.
 pub fn sound_fields(random: &mut Random) -> PolicyFields {
-    let n = random.between(1, MOST_CLASSES);
+    // The most is an edge of marks, masks and class numbers.
+    let n = random.between(1, MOST_CLASSES + 2).min(MOST_CLASSES);
     let rows = sound_rows(random, n);
     let (epoch, minimums) = sound_turns(random, n);
     PolicyFields::new(&rows, epoch, &minimums, sound_timing(random))
@@ -569,13 +574,15 @@ fn damaged_twice(random: &mut Random) -> Vec<u8> {
     let n = fields.rows.len();
     for _ in 0..random.between(2, 4) {
         let class = random.below(n);
-        match random.below(7) {
+        match random.below(9) {
             0 => fields.n = fields.n.wrapping_add(1),
             1 => fields.rows[class] &= !(1 << class),
             2 => fields.rows[class] = ((1u32 << n) - 1) as u16,
             3 => fields.rows[class] = 1 << class,
-            4 => fields.epoch = 0,
-            5 => fields.minimums[class] = 65,
+            4 => fields.rows[class] &= 1 << class | random.next() as u16,
+            5 => (0..n).for_each(|class| fields.rows[class] = 1 << class),
+            6 => fields.epoch = 0,
+            7 => fields.minimums[class] = 65,
             _ => fields.timing[random.below(TIMING_LENGTH)] = 0,
         }
     }
@@ -596,26 +603,41 @@ fn flipped_bit(random: &mut Random) -> Vec<u8> {
 // ---------------------------------------------------------------------------
 // Traces.
 
-/// A trace for a policy: mostly some hundreds of numbers, at times thousands.
+/// A trace for a policy: mostly some hundreds of numbers, at times thousands, and
+/// at times as many as it takes to pass an epoch's end and for every mark to go
+/// back to 1, where that is not too long.
 fn trace_numbers(random: &mut Random, policy: &Policy) -> Vec<u32> {
+    let turns = usize::from(policy.epoch).max(MOST_CLASSES);
+    let wait = turns * usize::from(policy.timing.turn_length);
     let length = match random.below(100) {
         0 => random.between(2_000, 5_000),
         1..=9 => random.between(400, 800),
         10 => 0,
+        11..=25 if wait <= LONGEST_WAIT => {
+            return stretches(random, policy, |writer| writer.cycle > wait);
+        }
         _ => random.between(1, 400),
     };
-    stretches(random, policy, length)
+    stretches(random, policy, |writer| writer.numbers.len() >= length)
 }
+
+/// So many cycles are not too long.
+const LONGEST_WAIT: usize = 2_000;
 
 /// A trace of exactly so many numbers for a policy.
 pub fn trace_of_length(random: &mut Random, policy: &Policy, length: usize) -> Vec<u32> {
-    let mut numbers = stretches(random, policy, length);
+    let long_enough = |writer: &TraceWriter| writer.numbers.len() >= length;
+    let mut numbers = stretches(random, policy, long_enough);
     numbers.truncate(length);
     numbers
 }
 
-/// Whole stretches, of at least so many numbers together.
-fn stretches(random: &mut Random, policy: &Policy, length: usize) -> Vec<u32> {
+/// Whole stretches, until it is enough.
+fn stretches(
+    random: &mut Random,
+    policy: &Policy,
+    enough: impl Fn(&TraceWriter) -> bool,
+) -> Vec<u32> {
     let mut writer = TraceWriter {
         random,
         policy,
@@ -623,7 +645,7 @@ fn stretches(random: &mut Random, policy: &Policy, length: usize) -> Vec<u32> {
         cycle: 0,
         banks: 8,
     };
-    while writer.numbers.len() < length {
+    while !enough(&writer) {
         writer.stretch();
     }
     writer.numbers
@@ -642,14 +664,15 @@ struct TraceWriter<'a> {
 impl TraceWriter<'_> {
     fn stretch(&mut self) {
         self.banks = *self.random.pick(&[1, 2, 8]);
-        match self.random.below(9) {
-            0 => self.burst(),
-            1 => self.idle(),
-            2 | 3 => self.mixed(),
-            4 | 5 => self.around_turn_start(),
-            6 => self.full_queue(),
-            7 => self.all_waiting(),
-            _ => self.noise(),
+        match self.random.below(90) {
+            0..=9 => self.burst(),
+            10..=19 => self.idle(),
+            20..=39 => self.mixed(),
+            40..=59 => self.around_turn_start(),
+            60..=69 => self.full_queue(),
+            70..=79 => self.all_waiting(),
+            80..=88 => self.noise(),
+            _ => self.crowd(),
         }
     }
 
@@ -730,6 +753,11 @@ impl TraceWriter<'_> {
         for _ in 0..QUEUE_LIMIT + self.random.below(3) {
             self.offer(class);
         }
+        if self.random.percent(30) {
+            // 10 comes before 11.
+            let refused = refused_offer(self.random, class);
+            self.numbers.push(refused);
+        }
         let count = self.random.below(6);
         self.ticks(count);
     }
@@ -744,6 +772,19 @@ impl TraceWriter<'_> {
         let longest = (4 * self.turn_length()).min(160);
         let count = self.random.between(1, longest);
         self.ticks(count);
+    }
+
+    /// A hundred numbers and more without a tick.
+    fn crowd(&mut self) {
+        for _ in 0..self.random.between(100, 130) {
+            let class = self.any_class();
+            if self.random.percent(80) {
+                self.offer(class);
+            } else {
+                let number = noise_word(self.random, self.policy, class);
+                self.numbers.push(number);
+            }
+        }
     }
 
     /// Malformed words and offers that 9 or 10 refuses.
@@ -789,14 +830,19 @@ pub fn refused_offer(random: &mut Random, class: u8) -> u32 {
     sound_offer(random, class, 8) | *random.pick(&[8 << 16, 2 << 20, 8 << 16 | 2 << 20])
 }
 
-/// A number of neither form: an offer with a bit set that must be 0, or a
-/// number other than 0 without bit 31.
+/// A number of neither form: an offer with bits set that must be 0, at times one
+/// alone, or a number other than 0 without bit 31.
 pub fn malformed_word(random: &mut Random) -> u32 {
     let any = random.next() as u32;
-    match random.below(4) {
+    let stray = 1 << *random.pick(&STRAY_BITS);
+    match random.below(5) {
         0 => 1,
         1 => 1 << random.below(31),
-        2 => any | 1 << 31 | 1 << *random.pick(&[22, 23, 29, 30]),
+        2 => any | 1 << 31 | stray,
+        3 => {
+            let class = random.below(MOST_CLASSES) as u8;
+            sound_offer(random, class, 8) | stray
+        }
         _ => any >> 1 | 1,
     }
 }

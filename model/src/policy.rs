@@ -98,28 +98,36 @@ impl Policy {
 
     /// The first of 2 to 8 that refuses these numbers.
     fn first_refusal(&self) -> Option<Refusal> {
-        let n = self.class_count();
-        if !(1..=MOST_CLASSES).contains(&n) || self.minimums.len() != n {
-            Some(Refusal::Lengths)
-        } else if !self.rows_are_sound() {
-            Some(Refusal::Rows)
-        } else if !self.is_antisymmetric() {
-            Some(Refusal::FlowBothWays)
-        } else if !self.is_transitive() {
-            Some(Refusal::NotTransitive)
-        } else if !self.classes().any(|class| self.flows_to_all(class)) {
-            Some(Refusal::NoLeastClass)
-        } else if !self.turns_are_sound() {
-            Some(Refusal::Turns)
-        } else if !self.timing.in_range() {
-            Some(Refusal::Timing)
-        } else {
-            None
-        }
+        self.refusals().next()
+    }
+
+    /// Every one of 2 to 8 that refuses these numbers, by rising number. After 2
+    /// no more may be asked: the later ones go by n.
+    pub(crate) fn refusals(&self) -> impl Iterator<Item = Refusal> + '_ {
+        let conditions: [(Refusal, fn(&Policy) -> bool); 7] = [
+            (Refusal::Lengths, Policy::lengths_are_sound),
+            (Refusal::Rows, Policy::rows_are_sound),
+            (Refusal::FlowBothWays, Policy::is_antisymmetric),
+            (Refusal::NotTransitive, Policy::is_transitive),
+            (Refusal::NoLeastClass, Policy::has_least),
+            (Refusal::Turns, Policy::turns_are_sound),
+            (Refusal::Timing, |policy| policy.timing.in_range()),
+        ];
+        let fails = |(_, holds): &(Refusal, fn(&Policy) -> bool)| !holds(self);
+        conditions
+            .into_iter()
+            .filter(fails)
+            .map(|(number, _)| number)
     }
 
     fn classes(&self) -> std::ops::Range<usize> {
         0..self.class_count()
+    }
+
+    /// 2: "n not 1 to 16, or a body's length does not fit it".
+    fn lengths_are_sound(&self) -> bool {
+        let n = self.class_count();
+        (1..=MOST_CLASSES).contains(&n) && self.minimums.len() == n
     }
 
     /// 3: "a row has a bit at n or above, or lacks its own".
@@ -148,7 +156,11 @@ impl Policy {
         })
     }
 
-    /// 6 asks for a class of which this holds.
+    /// 6: "no least class".
+    fn has_least(&self) -> bool {
+        self.classes().any(|class| self.flows_to_all(class))
+    }
+
     fn flows_to_all(&self, class: usize) -> bool {
         self.classes().all(|other| self.flows(class, other))
     }
@@ -249,6 +261,38 @@ fn read_or_refuse(bytes: &[u8]) -> Result<Policy, Refusal> {
     policy.covers = covers_of_order(&policy);
     policy.caps = caps_of_order(&policy);
     Ok(policy)
+}
+
+/// Every number that refuses a file, by rising number, as far as it can be told:
+/// past 1 where the file is but a byte too long, and past 2 of what n has no part
+/// in. For [`crate::coverage`].
+pub(crate) fn all_refusals(bytes: &[u8]) -> Vec<Refusal> {
+    let Ok(bodies) = read_contents(bytes) else {
+        let shorter = bytes.split_last().map_or(bytes, |(_, shorter)| shorter);
+        let later = match read_contents(shorter) {
+            Ok(_) => all_refusals(shorter),
+            Err(_) => Vec::new(),
+        };
+        return [vec![Refusal::Contents], later].concat();
+    };
+    if let Ok(policy) = read_bodies(&bodies) {
+        return policy.refusals().collect();
+    }
+    let epoch = bodies.turns.first();
+    let timing = <&[u8; TIMING_LENGTH]>::try_from(bodies.timing).map(Timing::from_bytes);
+    let later = [
+        epoch
+            .is_some_and(|epoch| !(1..=LONGEST_EPOCH).contains(epoch))
+            .then_some(Refusal::Turns),
+        timing
+            .is_ok_and(|timing| !timing.in_range())
+            .then_some(Refusal::Timing),
+    ];
+    [Some(Refusal::Lengths)]
+        .into_iter()
+        .chain(later)
+        .flatten()
+        .collect()
 }
 
 /// The three bodies, as the contents table cuts them out of the file.

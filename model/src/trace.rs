@@ -15,8 +15,10 @@ pub const COLUMN_BIT: u32 = 1 << 30;
 /// "plus 256 if the dead time is dropped"
 pub const ELIDED: u32 = 256;
 
-/// "other bits 0": those that no field of an offer takes (22, 23, 29 and 30).
-const UNUSED_BITS: u32 = 1 << 22 | 1 << 23 | 1 << 29 | 1 << 30;
+/// "other bits 0": those that no field of an offer takes.
+pub(crate) const STRAY_BITS: [u32; 4] = [22, 23, 29, 30];
+const UNUSED_BITS: u32 =
+    1 << STRAY_BITS[0] | 1 << STRAY_BITS[1] | 1 << STRAY_BITS[2] | 1 << STRAY_BITS[3];
 
 /// The three forms of a trace number.
 #[derive(Clone, Copy, Debug, PartialEq, Eq)]

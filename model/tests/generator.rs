@@ -40,6 +40,12 @@ fn every_kind_of_damage_gets_its_number() {
 }
 
 #[test]
+fn every_kind_of_damage_has_a_name_of_its_own() {
+    let names: HashSet<_> = DAMAGES.iter().map(|damage| damage.name).collect();
+    assert_eq!(names.len(), DAMAGES.len());
+}
+
+#[test]
 fn every_file_number_has_a_damage() {
     for number in 1..=8 {
         assert!(DAMAGES.iter().any(|damage| damage.number == number));
@@ -63,12 +69,16 @@ fn the_folders_of_a_fixed_range_of_seeds_meet_every_case() {
         coverage.add(&generate::folder(seed));
     }
     for (name, count) in coverage.counts() {
-        println!("{count:>9} {name}");
+        println!("{:>9} {name}", count.met);
     }
     let missed: Vec<&str> = coverage
         .counts()
-        .filter(|&(_, count)| count == 0)
+        .filter(|(_, count)| count.met < count.needed)
         .map(|(name, _)| name)
         .collect();
-    assert_eq!(missed, Vec::<&str>::new(), "never met in {FOLDERS} folders");
+    assert_eq!(
+        missed,
+        Vec::<&str>::new(),
+        "too seldom in {FOLDERS} folders"
+    );
 }

@@ -15,7 +15,7 @@ use std::thread;
 use std::time::{Duration, Instant};
 
 use vigambul_compare::{built, stream};
-use vigambul_model::coverage::Coverage;
+use vigambul_model::coverage::{Count, Coverage};
 use vigambul_model::generate::{self, PolicyFields};
 use vigambul_model::policy::{self, Policy};
 use vigambul_model::program::HEADER;
@@ -44,6 +44,8 @@ pub struct Case {
     pub trace: Option<Vec<u8>>,
     /// What was done to the generated folder.
     pub change: &'static str,
+    /// What was done to its policy, which is in that folder still.
+    pub damage: Option<&'static str>,
 }
 
 const CHANGES: [&str; 7] = [
@@ -89,6 +91,7 @@ impl Case {
         }
         Case {
             seed,
+            damage: folder.damage.filter(|_| policy.is_some()),
             policy,
             trace,
             change,
@@ -109,6 +112,7 @@ impl Case {
         generate::Folder {
             policy: self.policy_bytes().to_vec(),
             trace: self.trace_bytes().to_vec(),
+            damage: self.damage,
         }
     }
 }
@@ -163,8 +167,12 @@ impl Tally {
         }
     }
 
-    fn counts(&self) -> impl Iterator<Item = (&str, u64)> {
-        self.0.iter().map(|(name, &count)| (name.as_str(), count))
+    /// What must be met, must be met once at least.
+    fn counts(&self) -> impl Iterator<Item = (&str, Count)> {
+        let once = |&met: &u64| Count { met, needed: 1 };
+        self.0
+            .iter()
+            .map(move |(name, met)| (name.as_str(), once(met)))
     }
 
     /// A generator that never produces a case tests nothing.
@@ -173,15 +181,15 @@ impl Tally {
     }
 }
 
-fn require_all_met<'a>(counts: impl Iterator<Item = (&'a str, u64)>) {
+fn require_all_met<'a>(counts: impl Iterator<Item = (&'a str, Count)>) {
     let mut missed = Vec::new();
     for (name, count) in counts {
-        println!("{count:>9} {name}");
-        if count == 0 {
-            missed.push(name);
+        println!("{:>9} {name}", count.met);
+        if count.met < count.needed {
+            missed.push((name, count));
         }
     }
-    assert!(missed.is_empty(), "never met: {missed:?}");
+    assert!(missed.is_empty(), "met too seldom: {missed:?}");
 }
 
 /// What generated folders met.

@@ -20,6 +20,8 @@ fn main() {
         eprintln!("{} names no file", archive.display());
         exit(1);
     };
+    // For tests that link it to programs of their own.
+    println!("cargo:rustc-env=VIGAMBUL_ARCHIVE={}", archive.display());
     println!("cargo:rustc-link-search=native={}", folder.display());
     println!(
         "cargo:rustc-link-lib=static:+verbatim={}",

@@ -1,4 +1,4 @@
-//! Where the built program lies.
+//! Where the built program and the built library lie.
 
 use std::path::{Path, PathBuf};
 
@@ -18,4 +18,9 @@ pub fn program() -> PathBuf {
             path.display()
         ),
     }
+}
+
+/// The library that this package is linked to.
+pub fn library() -> &'static Path {
+    Path::new(env!("VIGAMBUL_ARCHIVE"))
 }

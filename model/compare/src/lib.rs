@@ -2,7 +2,7 @@
 //!
 //! | Module        | What it holds                                               |
 //! |---------------|-------------------------------------------------------------|
-//! | [`built`]     | where the built program lies                                |
+//! | [`built`]     | where the built program and library lie                     |
 //! | [`library`]   | the calls of the built library                              |
 //! | [`calls`]     | the same calls of the library, or of the model in its place |
 //! | [`wrong`]     | wrong extracts, each of which the tests must find           |

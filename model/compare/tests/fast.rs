@@ -4,9 +4,11 @@
 mod common;
 
 use common::*;
-use vigambul_compare::{fast, workloads};
+use vigambul_compare::fast;
+use vigambul_compare::workloads::{self, Workload};
 use vigambul_model::program::{self, read_trace};
-use vigambul_model::trace::LINE;
+use vigambul_model::state::{self, QUEUE_LIMIT};
+use vigambul_model::trace::{self, LINE};
 
 #[test]
 fn the_fast_run_writes_what_the_model_writes() {
@@ -52,24 +54,54 @@ fn the_fast_run_writes_what_the_model_writes_on_the_workloads() {
 }
 
 #[test]
-fn saturated_workloads_keep_every_queue_filled_and_the_mix_is_refused_in_every_way() {
-    for workload in workloads::main_workloads(50_000) {
-        let log = model_log(&workload.policy, &workload.trace).expect(workload.name);
-        let lines = log.chunks_exact(LINE);
-        if workload.name.contains("saturated") {
-            // No owner is passed over, so every class that exists owns turns.
-            let (classes, _) = vigambul_model::policy::read(&workload.policy);
-            for class in 0..classes.class_count() as u32 {
-                let owns = |line: &[u32]| line[3] & 0xFF == class + 1;
-                assert!(lines.clone().any(owns), "{}: {class}", workload.name);
-            }
-            assert!(lines.clone().all(|line| line[0] == 0), "{}", workload.name);
+fn saturated_workloads_keep_every_queue_filled() {
+    let length = 20_000;
+    let saturated = workloads::main_workloads(length)
+        .into_iter()
+        .chain(workloads::long_turn_workloads(length))
+        .filter(|workload| workload.name.contains("saturated"));
+    let mut count = 0;
+    for Workload {
+        name,
+        policy,
+        trace,
+    } in saturated
+    {
+        let policy = accepted(&policy);
+        let (mut state, _) = state::fresh(&policy);
+        let mut owned = vec![false; policy.class_count()];
+        for (place, number) in trace.into_iter().enumerate() {
+            let waiting = state.classes.iter().map(|class| class.queue.len());
+            let all_filled = waiting.clone().all(|length| length == QUEUE_LIMIT);
+            let lengths = || waiting.clone().collect::<Vec<_>>();
+            assert!(
+                number != 0 || all_filled,
+                "{name}, {place}: {:?}",
+                lengths()
+            );
+            let line = &mut [0; LINE];
+            assert_eq!(trace::run(&policy, &mut state, &[number], line), Ok(()));
+            assert_eq!(line[0], 0, "{name}, {place}: refused");
+            owned[state.owner] = true;
         }
-        if workload.name.contains("refusals") {
-            for status in [0, 9, 10, 11, 14] {
-                assert!(lines.clone().any(|line| line[0] == status), "{status}");
-            }
-        }
+        // No owner is passed over, so every class that exists owns turns; where
+        // turns are long, not all of them in so short a trace.
+        let long_turns = policy.timing.turn_length == 255;
+        assert!(long_turns || owned.iter().all(|&owned| owned), "{name}");
+        count += 1;
+    }
+    assert_eq!(count, 5, "saturated workloads");
+}
+
+#[test]
+fn the_mix_is_refused_in_every_way() {
+    let mut workloads = workloads::main_workloads(50_000).into_iter();
+    let mix = workloads.find(|workload| workload.name.contains("refusals"));
+    let mix = mix.expect("a mix with refusals");
+    let log = model_log(&mix.policy, &mix.trace).expect(mix.name);
+    for status in [0, 9, 10, 11, 14] {
+        let mut lines = log.chunks_exact(LINE);
+        assert!(lines.any(|line| line[0] == status), "{status}");
     }
 }
 

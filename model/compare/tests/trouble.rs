@@ -5,28 +5,40 @@ mod common;
 
 use std::fs::{self, OpenOptions};
 use std::io::Read;
-use std::process::{Command, Stdio};
+use std::os::unix::process::ExitStatusExt;
+use std::process::{Child, Command, Stdio};
 
 use common::*;
 use vigambul_compare::built;
 use vigambul_model::program::HEADER;
 
-/// What a command that must end wrote to standard error, and to standard output
-/// where that was kept.
-fn words_of(mut command: Command) -> (String, Vec<u8>) {
-    let mut child = command
-        .stderr(Stdio::piped())
-        .spawn()
-        .expect("the program starts");
-    wait_for_end(&mut child);
-    let mut words = String::new();
-    let stderr = child.stderr.as_mut().expect("its standard error");
-    stderr.read_to_string(&mut words).expect("words");
+/// The signal of a pipe that nobody reads.
+const SIGPIPE: i32 = 13;
+
+/// A command that must end by itself and say these words on standard error, and
+/// nothing else. What it printed is given, where that was kept.
+///
+/// The exit status is 0 whatever happened: the proved program has no other.
+fn says(mut command: Command, expected: &str) -> Vec<u8> {
+    // What the system calls the trouble, in its own language.
+    command.env("LC_ALL", "C").stderr(Stdio::piped());
+    let mut child = command.spawn().expect("the program starts");
+    let status = wait_for_end(&mut child);
+    assert_eq!(words_of(&mut child), expected);
+    assert_eq!(status.code(), Some(0), "{status}");
     let mut printed = Vec::new();
     if let Some(stdout) = child.stdout.as_mut() {
         stdout.read_to_end(&mut printed).expect("its output");
     }
-    (words, printed)
+    printed
+}
+
+/// What a program that has ended wrote to standard error.
+fn words_of(child: &mut Child) -> String {
+    let mut words = String::new();
+    let stderr = child.stderr.as_mut().expect("its standard error");
+    stderr.read_to_string(&mut words).expect("words");
+    words
 }
 
 /// A folder whose output is much longer than any buffer.
@@ -53,8 +65,7 @@ fn a_full_device_is_told() {
     for folder in [&long, &short, &refused] {
         let mut command = command_in(built::program(), folder);
         command.stdout(full());
-        let (words, _) = words_of(command);
-        assert!(!words.is_empty(), "{}", folder.path().display());
+        says(command, "standard output: No space left on device\n");
     }
 }
 
@@ -68,27 +79,32 @@ fn a_closed_standard_output_is_told() {
             .args(["-c", "exec \"$0\" >&-"])
             .arg(built::program())
             .stdout(Stdio::null());
-        let (words, _) = words_of(command);
-        assert!(!words.is_empty(), "{}", folder.path().display());
+        says(command, "standard output: Bad file descriptor\n");
     }
 }
 
 #[test]
 fn a_reader_that_goes_away_ends_the_program() {
-    // The system itself may end the program here, so no words are asked for.
+    // The system itself may end the program here; else it says why it ends.
     let folder = long_folder("reader");
     let mut command = command_in(built::program(), &folder);
     let mut child = command
+        .env("LC_ALL", "C")
         .stdout(Stdio::piped())
-        .stderr(Stdio::null())
+        .stderr(Stdio::piped())
         .spawn()
         .expect("the program starts");
     let mut first = [0; 100];
     let mut stdout = child.stdout.take().expect("its output");
     stdout.read_exact(&mut first).expect("the first lines");
     drop(stdout);
-    wait_for_end(&mut child);
+    let status = wait_for_end(&mut child);
     assert!(first.starts_with(HEADER));
+    let words = words_of(&mut child);
+    match status.signal() {
+        Some(signal) => assert_eq!((signal, words.as_str()), (SIGPIPE, "")),
+        None => assert_eq!(words, "standard output: Broken pipe\n"),
+    }
 }
 
 #[test]
@@ -98,8 +114,7 @@ fn a_trace_that_cannot_be_read_is_told() {
     fs::create_dir_all(folder.path().join("trace.bin")).expect("a folder in place of the trace");
     let mut command = command_in(built::program(), &folder);
     command.stdout(Stdio::piped());
-    let (words, printed) = words_of(command);
-    assert!(!words.is_empty());
+    let printed = says(command, "trace.bin: Is a directory\n");
     // The header may be out by then; a line of the log may not.
     assert!(HEADER.starts_with(&printed), "{} bytes", printed.len());
 }
@@ -111,8 +126,16 @@ fn a_policy_that_cannot_be_read_is_told() {
     fs::create_dir_all(folder.path().join("policy.bin")).expect("a folder in place of the policy");
     let mut command = command_in(built::program(), &folder);
     command.stdout(Stdio::piped());
-    let (words, printed) = words_of(command);
-    assert!(!words.is_empty());
+    let printed = says(command, "policy.bin: Is a directory\n");
     // It is not missing, so it is not read as empty.
     assert_eq!(String::from_utf8_lossy(&printed), "");
+}
+
+#[test]
+fn a_trace_is_not_asked_for_where_the_policy_is_refused() {
+    let folder = Folder::new("refused-and-folder");
+    fs::create_dir_all(folder.path().join("trace.bin")).expect("a folder in place of the trace");
+    let mut command = command_in(built::program(), &folder);
+    command.stdout(Stdio::piped());
+    assert_eq!(says(command, ""), b"policy refused 1\n");
 }

@@ -10,6 +10,7 @@ use std::time::{Duration, Instant};
 
 use vigambul_compare::workloads::{self, Workload};
 use vigambul_compare::{built, fast, library, stream};
+use vigambul_model::program::HEADER;
 use vigambul_model::{policy, state, trace};
 
 /// Trace numbers of a run. Trace and log, 20 bytes a number, are 4 MB.
@@ -193,6 +194,7 @@ fn print_program_table(workloads: &[Workload], folder: &Path) -> io::Result<()> 
         }
         fs::write(folder.join("trace.bin"), &bytes)?;
         let file = folder.join("output.txt");
+        require_equal_outputs(workload, &programs, folder, &file)?;
         let mut cells = Vec::new();
         for output in [Path::new("/dev/null"), &file] {
             let [program, rust] = time_programs(&programs, folder, output)?
@@ -218,20 +220,47 @@ fn time_programs(
     for repetition in 0..PROGRAM_REPETITIONS {
         for place in 0..programs.len() {
             let which = (place + repetition) % programs.len();
-            let (path, arguments) = &programs[which];
-            let mut command = Command::new(path);
-            command
-                .args(*arguments)
-                .current_dir(folder)
-                .stdin(Stdio::null())
-                .stdout(File::create(output)?);
-            let start = Instant::now();
-            let status = command.status()?;
-            best[which] = best[which].min(start.elapsed());
-            if !status.success() {
-                return Err(io::Error::other(format!("{}: {status}", path.display())));
-            }
+            let time = time_program(&programs[which], folder, output)?;
+            best[which] = best[which].min(time);
         }
     }
     Ok(best)
+}
+
+/// The time of one program with its output to a file.
+fn time_program(program: &Program, folder: &Path, output: &Path) -> io::Result<Duration> {
+    let (path, arguments) = program;
+    let mut command = Command::new(path);
+    command
+        .args(*arguments)
+        .current_dir(folder)
+        .stdin(Stdio::null())
+        .stdout(File::create(output)?);
+    let start = Instant::now();
+    let status = command.status()?;
+    let time = start.elapsed();
+    match status.success() {
+        true => Ok(time),
+        false => Err(io::Error::other(format!("{}: {status}", path.display()))),
+    }
+}
+
+/// What is measured is worth nothing if the programs print different lines, or
+/// not all of them.
+fn require_equal_outputs(
+    workload: &Workload,
+    programs: &[Program; 2],
+    folder: &Path,
+    output: &Path,
+) -> io::Result<()> {
+    let mut printed = Vec::new();
+    for program in programs {
+        time_program(program, folder, output)?;
+        printed.push(fs::read(output)?);
+    }
+    let length = HEADER.len() + stream::TEXT_LINE * workload.trace.len();
+    assert_eq!(printed[0].len(), length, "{}", workload.name);
+    let equal = printed[0] == printed[1];
+    assert!(equal, "{}: the programs' lines differ", workload.name);
+    Ok(())
 }

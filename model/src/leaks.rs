@@ -3,19 +3,24 @@
 //! noninterference.
 
 use crate::altered::Altered;
+use crate::met::Met;
 use crate::planted::Planted;
-use crate::policy::{Policy, MOST_CLASSES};
+use crate::policy::Policy;
 use crate::random::Random;
 use crate::refusal::Refusal;
 use crate::state::{self, State};
 use crate::tick::{offer_planted, tick_planted};
-use crate::trace::{run_planted, tick_line, Word, COLUMN_BIT, LINE, OFFER_BIT};
+use crate::trace::{run_planted, tick_line, Word, LINE};
 
 pub use crate::pairs::{pair, purge, Cut, Pair};
 
-/// The number of pairs in which every planted leak must show, and the model as
-/// it is must show none.
+/// The number of pairs in which the model as it is must show no leak, nor the
+/// library.
 pub const ORDINARY_PAIRS: u64 = 50_000;
+
+/// Every planted leak must show in so many pairs: far fewer than those in which
+/// nothing else shows one.
+pub const PAIRS_ENOUGH: u64 = ORDINARY_PAIRS / 10;
 
 /// A leak: a pair of lists that agree for L, and what differs.
 #[derive(Clone, Debug, PartialEq, Eq)]
@@ -28,89 +33,24 @@ pub struct Leak {
     pub what: String,
 }
 
-/// What a search found and what it covered.
+/// What a search found and what it met.
 #[derive(Clone, Debug, Default, PartialEq, Eq)]
 pub struct Search {
-    /// Pairs compared, the one with the leak counted.
-    pub pairs: u64,
-    /// Pairs in which the calls that L may not see made the logs differ.
-    pub pairs_with_different_logs: u64,
-    /// Pairs in which every class may flow to L: nothing to hide but noise.
-    pub pairs_without_neighbours: u64,
-    pub pairs_of_sixteen_classes: u64,
-    pub pairs_with_another_least_class_than_0: u64,
-    /// Pairs with E above 5 whose lists go on after an epoch's end, and those of
-    /// E above 16 among them.
-    pub pairs_past_an_epoch_above_5: u64,
-    pub pairs_past_an_epoch_above_16: u64,
-    /// Pairs of two turns or more, each of 240 ticks or more.
-    pub pairs_with_turns_above_239: u64,
-    /// Ticks of the longest list.
-    pub most_ticks: u64,
-    /// Lists whose last number is no tick.
-    pub lists_with_an_open_end: u64,
-    /// Offers, hidden or seen, that got 11.
-    pub offers_to_full_queues: u64,
-    pub lists_cut_into_runs: u64,
-    pub lists_cut_into_single_calls: u64,
-    pub calls: u64,
-    pub numbers_compared: u64,
-    /// Activates and turns that L sees, and turns that it does not.
-    pub seen_activates: u64,
-    pub seen_turns: u64,
-    pub hidden_turns: u64,
+    pub met: Met,
     pub leak: Option<Leak>,
 }
 
 impl Search {
     /// The search in words.
     pub fn report(&self) -> String {
-        let mut text = format!(
-            "pairs compared: {}\n\
-             pairs with different logs: {}\n\
-             pairs without neighbours: {}\n\
-             pairs of sixteen classes: {}\n\
-             pairs with another least class than 0: {}\n\
-             pairs past an epoch above 5: {}\n\
-             pairs past an epoch above 16: {}\n\
-             pairs with turns above 239: {}\n\
-             most ticks in a list: {}\n\
-             lists with an open end: {}\n\
-             offers to full queues: {}\n\
-             lists cut into runs: {}\n\
-             lists cut into single calls: {}\n\
-             calls: {}\n\
-             extract numbers compared: {}\n\
-             activates seen: {}\n\
-             turns seen: {}\n\
-             turns hidden: {}\n",
-            self.pairs,
-            self.pairs_with_different_logs,
-            self.pairs_without_neighbours,
-            self.pairs_of_sixteen_classes,
-            self.pairs_with_another_least_class_than_0,
-            self.pairs_past_an_epoch_above_5,
-            self.pairs_past_an_epoch_above_16,
-            self.pairs_with_turns_above_239,
-            self.most_ticks,
-            self.lists_with_an_open_end,
-            self.offers_to_full_queues,
-            self.lists_cut_into_runs,
-            self.lists_cut_into_single_calls,
-            self.calls,
-            self.numbers_compared,
-            self.seen_activates,
-            self.seen_turns,
-            self.hidden_turns,
-        );
-        text += &match &self.leak {
+        let found = match &self.leak {
             None => "no leak found\n".to_string(),
             Some(leak) => format!(
                 "LEAK: seed {}, class {}: {}\n",
                 leak.seed, leak.class, leak.what
             ),
         };
-        text
+        self.met.report() + &found
     }
 }
 
@@ -126,9 +66,10 @@ pub fn search_planted(count: u64, planted: Planted) -> Search {
         let pair = pair(seed);
         let done = [0, 1].map(|side| perform(&pair, side, planted));
         let outcomes = outcomes(&pair, &done);
-        search.count_pair(&pair);
-        search.count_logs(&pair, &done[0].log, &done[1].log);
-        search.count_seen(&outcomes[0].extract);
+        let extract = &outcomes[0].extract;
+        let logs = [&done[0].log, &done[1].log].map(Vec::as_slice);
+        let numbers = &extract.out[..extract.count];
+        search.met.add_pair(&pair, logs, numbers);
         if let Some((check, what)) = difference(&pair, &done, &outcomes) {
             search.leak = Some(Leak {
                 seed,
@@ -159,57 +100,6 @@ pub fn check_altered(seed: u64, altered: Altered) -> Option<Option<Check>> {
 
 // ---------------------------------------------------------------------------
 // Comparing one pair.
-
-impl Search {
-    fn count_pair(&mut self, pair: &Pair) {
-        let policy = &pair.policy;
-        let n = policy.class_count();
-        self.pairs += 1;
-        self.calls += (pair.lists[0].len() + pair.lists[1].len()) as u64;
-        for cut in pair.cuts {
-            self.lists_cut_into_runs += u64::from(cut == Cut::Runs);
-            self.lists_cut_into_single_calls += u64::from(cut == Cut::SingleCalls);
-        }
-        let neighbours = (0..n).any(|class| !pair.sees(class));
-        self.pairs_without_neighbours += u64::from(!neighbours);
-        self.pairs_of_sixteen_classes += u64::from(n == MOST_CLASSES);
-        self.pairs_with_another_least_class_than_0 += u64::from(policy.least() != 0);
-        let ticks = pair.ticks();
-        let turn_length = usize::from(policy.timing.turn_length);
-        let epoch = usize::from(policy.epoch);
-        let past_epoch = ticks > epoch * turn_length;
-        self.pairs_past_an_epoch_above_5 += u64::from(epoch > 5 && past_epoch);
-        self.pairs_past_an_epoch_above_16 += u64::from(epoch > 16 && past_epoch);
-        let long_turns = turn_length >= 240 && ticks > turn_length;
-        self.pairs_with_turns_above_239 += u64::from(long_turns);
-        self.most_ticks = self.most_ticks.max(ticks as u64);
-        for list in &pair.lists {
-            let open_end = list.last().is_some_and(|&number| number != 0);
-            self.lists_with_an_open_end += u64::from(open_end);
-        }
-    }
-
-    fn count_logs(&mut self, pair: &Pair, left: &[u32], right: &[u32]) {
-        let changed = pair.ticks_of(0, left).ne(pair.ticks_of(1, right));
-        self.pairs_with_different_logs += u64::from(changed);
-        let full = |line: &[u32]| line[0] == Refusal::QueueFull.number();
-        for log in [left, right] {
-            let count = log.chunks_exact(LINE).filter(|line| full(line)).count();
-            self.offers_to_full_queues += count as u64;
-        }
-    }
-
-    fn count_seen(&mut self, extract: &Extract) {
-        let numbers = &extract.out[..extract.count];
-        self.numbers_compared += numbers.len() as u64;
-        for line in numbers.chunks_exact(LINE) {
-            let activate = line[1] & OFFER_BIT != 0 && line[1] & COLUMN_BIT == 0;
-            self.seen_activates += u64::from(activate);
-            self.hidden_turns += u64::from(line[3] == crate::extract::HIDDEN_TURN);
-            self.seen_turns += u64::from(line[3] & 0xFF != 0);
-        }
-    }
-}
 
 /// What stands in a slice before an extract writes into it. No log has it.
 const UNWRITTEN: u32 = u32::MAX;
@@ -282,6 +172,19 @@ pub enum Check {
     Mark,
 }
 
+impl Check {
+    /// The comparison of a number of two extracts with the same count.
+    pub fn of_number(place: usize, count: usize) -> Check {
+        match place % LINE {
+            _ if place >= count => Check::PastTheCount,
+            0 => Check::Status,
+            1 => Check::Command,
+            2 => Check::Answer,
+            _ => Check::Turn,
+        }
+    }
+}
+
 /// What differs for L between two lists that agree for it.
 fn difference(
     pair: &Pair,
@@ -313,13 +216,7 @@ fn difference_of_extracts([left, right]: &[Outcome; 2]) -> Option<(Check, String
         return Some((Check::Count, what));
     }
     let place = (0..left.out.len()).find(|&place| left.out[place] != right.out[place])?;
-    let check = match place % LINE {
-        _ if place >= left.count => Check::PastTheCount,
-        0 => Check::Status,
-        1 => Check::Command,
-        2 => Check::Answer,
-        _ => Check::Turn,
-    };
+    let check = Check::of_number(place, left.count);
     let what = format!(
         "number {place} of the extracts is {:08X} and {:08X}",
         left.out[place], right.out[place]

@@ -18,7 +18,8 @@
 //! [`generate`] makes policies and traces from a seed, [`coverage`] counts
 //! what they exercise, [`random`] is the source of chance of both, and
 //! [`planted`] holds the wrong rules that the search for leaks must find;
-//! [`altered`] holds the faults by which its comparison is tested.
+//! [`altered`] holds the faults by which its comparison is tested, and [`met`]
+//! counts what it meets.
 //!
 //! The text in quotation marks above a rule is document 01's own.
 
@@ -30,6 +31,7 @@ pub mod dead_time;
 pub mod extract;
 pub mod generate;
 pub mod leaks;
+pub mod met;
 pub mod pairs;
 pub mod planted;
 pub mod policy;

@@ -424,8 +424,10 @@ fn agreeing_lists(
         for (side, habits) in sides.iter_mut().zip(&hidden_habits) {
             let mut own = side.offers(random, &hidden, habits, banks);
             if random.percent(if tick < ticks { 3 } else { 60 }) {
-                own.push(malformed_word(random));
-                own.push(missing_class_word(random, policy));
+                let mut noise = [malformed_word(random), missing_class_word(random, policy)];
+                // Either may be the last number of a list.
+                random.shuffle(&mut noise);
+                own.extend(noise);
             }
             interleave(random, side, &shared, &own);
             if tick < ticks {

@@ -42,3 +42,20 @@ pub enum Planted {
     /// A run refused with 15 makes its calls.
     RefusedRunMakesItsCalls,
 }
+
+/// Every wrong rule.
+pub const LEAKS: [Planted; 13] = [
+    Planted::AlwaysElided,
+    Planted::Document000Elision,
+    Planted::EpochEndForgotten,
+    Planted::HigherAskedFirst,
+    Planted::TurnReclaimed,
+    Planted::EpochEndForgottenAboveFive,
+    Planted::AlwaysElidedInLongTurns,
+    Planted::BankAgeInEightBits,
+    Planted::IncomparableForgottenForOwner15,
+    Planted::SharedPoolOf120,
+    Planted::MarkCarried,
+    Planted::RunAnswersForItsLastWord,
+    Planted::RefusedRunMakesItsCalls,
+];

@@ -51,6 +51,9 @@ pub struct Policy {
     pub caps: Vec<u8>,
 }
 
+/// A number of the table, and what must hold lest it refuses a policy.
+type Condition = (Refusal, fn(&Policy) -> bool);
+
 impl Policy {
     /// "A refused file gives the policy of no classes, all zeros".
     pub fn of_no_classes() -> Policy {
@@ -104,7 +107,7 @@ impl Policy {
     /// Every one of 2 to 8 that refuses these numbers, by rising number. After 2
     /// no more may be asked: the later ones go by n.
     pub(crate) fn refusals(&self) -> impl Iterator<Item = Refusal> + '_ {
-        let conditions: [(Refusal, fn(&Policy) -> bool); 7] = [
+        let conditions: [Condition; 7] = [
             (Refusal::Lengths, Policy::lengths_are_sound),
             (Refusal::Rows, Policy::rows_are_sound),
             (Refusal::FlowBothWays, Policy::is_antisymmetric),
@@ -113,7 +116,7 @@ impl Policy {
             (Refusal::Turns, Policy::turns_are_sound),
             (Refusal::Timing, |policy| policy.timing.in_range()),
         ];
-        let fails = |(_, holds): &(Refusal, fn(&Policy) -> bool)| !holds(self);
+        let fails = |(_, holds): &Condition| !holds(self);
         conditions
             .into_iter()
             .filter(fails)

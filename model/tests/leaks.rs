@@ -5,20 +5,19 @@ use std::sync::OnceLock;
 
 use vigambul_model::altered::Altered;
 use vigambul_model::leaks::{
-    self, check_altered, search, search_planted, Check, Search, ORDINARY_PAIRS,
+    self, check_altered, search, search_planted, Check, Search, ORDINARY_PAIRS, PAIRS_ENOUGH,
 };
-use vigambul_model::planted::Planted;
+use vigambul_model::planted::{self, Planted};
 
-/// Every planted leak must show in so many pairs: far fewer than those in which
-/// the model as it is shows none.
-const PAIRS_ENOUGH: u64 = ORDINARY_PAIRS / 10;
-
-/// A planted leak must be found.
+/// A planted leak must be found. It must be in the list of all of them, by which
+/// the search on the library is tried too.
 fn finds(planted: Planted) -> Option<Check> {
+    assert!(planted::LEAKS.contains(&planted), "{planted:?}");
     let search = search_planted(PAIRS_ENOUGH, planted);
     println!(
         "{planted:?} after {} pairs: {:?}",
-        search.pairs, search.leak
+        search.met.pairs(),
+        search.leak
     );
     assert!(
         search.leak.is_some(),
@@ -38,28 +37,12 @@ fn the_model_as_it_is_shows_no_leak() {
     let search = ordinary_search();
     println!("{}", search.report());
     assert_eq!(search.leak, None, "replay it with leaks::pair(seed)");
-    assert_eq!(search.pairs, ORDINARY_PAIRS);
+    assert_eq!(search.met.pairs(), ORDINARY_PAIRS);
 }
 
 #[test]
 fn the_search_covers_what_it_must() {
-    let search = ordinary_search();
-    // Pairs whose logs are the same for everybody show nothing.
-    assert!(search.pairs_with_different_logs > ORDINARY_PAIRS / 2);
-    assert!(search.pairs_without_neighbours > 0);
-    assert!(search.pairs_of_sixteen_classes > ORDINARY_PAIRS / 6);
-    assert!(search.pairs_with_another_least_class_than_0 > ORDINARY_PAIRS / 2);
-    assert!(search.pairs_past_an_epoch_above_5 > ORDINARY_PAIRS / 20);
-    assert!(search.pairs_past_an_epoch_above_16 > ORDINARY_PAIRS / 100);
-    assert!(search.pairs_with_turns_above_239 > ORDINARY_PAIRS / 100);
-    assert!(search.most_ticks >= 4_000);
-    assert!(search.lists_with_an_open_end > ORDINARY_PAIRS / 4);
-    assert!(search.offers_to_full_queues > ORDINARY_PAIRS);
-    assert!(search.lists_cut_into_runs > ORDINARY_PAIRS / 10);
-    assert!(search.lists_cut_into_single_calls > ORDINARY_PAIRS / 20);
-    assert!(search.seen_activates > 8 * ORDINARY_PAIRS);
-    assert!(search.seen_turns > ORDINARY_PAIRS);
-    assert!(search.hidden_turns > ORDINARY_PAIRS);
+    assert_eq!(ordinary_search().met.too_little(), [""; 0]);
 }
 
 #[test]

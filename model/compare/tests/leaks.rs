@@ -1,70 +1,50 @@
 //! "Two lists side by side", through the built library: two lists that agree
 //! for a class L are run, and the extracts of their logs for L are compared.
 //!
-//! Through the library no state is seen, and every list is one run; the model's
-//! own search has both.
+//! The pairs, the planted leaks and what must be met are those of the model's own
+//! search; the comparison is this one's own. Through the library no state is
+//! seen, and every list is one run.
 
 mod common;
 
+use std::hash::{DefaultHasher, Hash, Hasher};
 use std::ops::Range;
 
 use common::*;
 use vigambul_compare::calls::{Calls, Library, Model};
 use vigambul_compare::wrong::{WithWrongExtract, Wrong, LEAKS};
-use vigambul_model::extract::HIDDEN_TURN;
-use vigambul_model::leaks::{self, Pair};
-use vigambul_model::planted::Planted;
-use vigambul_model::trace::{Word, COLUMN_BIT, LINE, OFFER_BIT};
-
-/// The pairs that are searched, unless `VIGAMBUL_PAIRS` sets another number.
-/// Every planted leak must be found in as many.
-const PAIRS: u64 = 4_000;
+use vigambul_model::generate::{malformed_word, sound_offer};
+use vigambul_model::leaks::{self, Check, Cut, Pair, ORDINARY_PAIRS, PAIRS_ENOUGH};
+use vigambul_model::met::Met;
+use vigambul_model::planted::{self, Planted};
+use vigambul_model::random::Random;
+use vigambul_model::trace::{Word, LINE};
 
 /// No number of a log or of an extract looks like this.
 const FILLER: u32 = 0x5AA5_5AA5;
 
-const MUST_BE_MET: [&str; 16] = [
-    "pairs",
-    "pairs of different lists",
-    "pairs with different logs of ticks",
-    "pairs with lists of different lengths",
-    "pairs in which all classes may flow to L",
-    "offers of hidden classes in one list or the other",
-    "offers of missing classes in one list or the other",
-    "malformed words in one list or the other",
-    "numbers of extracts compared",
-    "activates seen",
-    "columns seen",
-    "answers seen",
-    "turns seen",
-    "turns hidden",
-    "refused offers seen",
-    "extracts refused with 16",
-];
-
-fn pairs() -> Range<u64> {
-    seeds("VIGAMBUL_PAIRS", PAIRS)
-}
-
 // ---------------------------------------------------------------------------
 // The search.
 
+/// A leak: the comparison that told, and what it told.
+type Leak = (Check, String);
+
 /// Compares the pairs of some seeds, up to the first leak, which is told.
-fn search(calls: &impl Calls, seeds: Range<u64>, tally: &mut Tally) -> Option<String> {
+fn search(calls: &impl Calls, seeds: Range<u64>, met: &mut Met) -> Option<Leak> {
     for seed in seeds {
         let pair = leaks::pair(seed);
-        if let Err(what) = compare(calls, &pair, tally) {
-            return Some(format!("seed {seed}, class {}: {what}", pair.class));
+        if let Err((check, what)) = compare(calls, &pair, met) {
+            let what = format!("seed {seed}, class {}: {what}", pair.class);
+            return Some((check, what));
         }
     }
     None
 }
 
 /// Whether L is told the same by the extracts of both lists of a pair.
-fn compare(calls: &impl Calls, pair: &Pair, tally: &mut Tally) -> Result<(), String> {
+fn compare(calls: &impl Calls, pair: &Pair, met: &mut Met) -> Result<(), Leak> {
     let [left, right] = [0, 1].map(|side| run(calls, pair, side));
     let logs = [left?, right?];
-    count_lists(pair, &logs, tally);
 
     // What the lists have in common is all that is kept of either.
     let needed = LINE * leaks::purge(&pair.policy, pair.class, &pair.lists[0]).len();
@@ -73,30 +53,33 @@ fn compare(calls: &impl Calls, pair: &Pair, tally: &mut Tally) -> Result<(), Str
     // or neither".
     let enough = [LINE * longest + 7, LINE * longest, needed];
     let short = (1..=4).map(|short| needed.saturating_sub(short));
+    let mut seen = Vec::new();
     for room in enough.into_iter().chain(short).chain([0]) {
-        let [left, right] = [0, 1].map(|side| Told::new(calls, pair, side, &logs[side], room));
-        if let Some(what) = left.difference(&right) {
-            return Err(format!("{what}, with room for {room}"));
+        let told = [0, 1].map(|side| Told::new(calls, pair, side, &logs[side], room));
+        if let Some((check, what)) = difference(&told) {
+            return Err((check, format!("{what}, with room for {room}")));
         }
-        if room >= needed && left.status != 0 {
-            return Err(format!("both refused with {}, room enough", left.status));
+        let expected = if room < needed { 16 } else { 0 };
+        if told[0].status != expected {
+            let what = format!("both get {}, with room for {room}", told[0].status);
+            return Err((Check::Room, what));
         }
-        tally.add("extracts refused with 16", u64::from(left.status == 16));
-        tally.add("numbers of extracts compared", left.count as u64);
         if room == needed {
-            count_seen(&left.numbers, tally);
+            let [first, _] = told;
+            seen = first.numbers;
         }
     }
+    met.add_pair(pair, [&logs[0], &logs[1]], &seen);
     Ok(())
 }
 
 /// The log of one list of a pair.
-fn run(calls: &impl Calls, pair: &Pair, side: usize) -> Result<Vec<u32>, String> {
+fn run(calls: &impl Calls, pair: &Pair, side: usize) -> Result<Vec<u32>, Leak> {
     let list = &pair.lists[side];
     let mut log = vec![FILLER; LINE * list.len()];
     match calls.run(&pair.file, list, &mut log) {
         0 => Ok(log),
-        status => Err(format!("the run is refused with {status}")),
+        status => Err((Check::Run, format!("a run is refused with {status}"))),
     }
 }
 
@@ -120,90 +103,26 @@ impl Told {
             numbers,
         }
     }
-
-    /// "hand back the same count and write the same numbers"
-    fn difference(&self, other: &Told) -> Option<String> {
-        if self.status != other.status {
-            return Some(format!("statuses {} and {}", self.status, other.status));
-        }
-        if self.count != other.count {
-            return Some(format!("counts {} and {}", self.count, other.count));
-        }
-        let [ours, theirs] = [&self.numbers, &other.numbers];
-        let place = (0..ours.len()).find(|&place| ours[place] != theirs[place])?;
-        Some(format!(
-            "number {place} is {:08X} and {:08X}",
-            ours[place], theirs[place]
-        ))
-    }
 }
 
-// ---------------------------------------------------------------------------
-// What a search met.
-
-fn count_lists(pair: &Pair, logs: &[Vec<u32>; 2], tally: &mut Tally) {
-    let [left, right] = &pair.lists;
-    let ticks = |side: usize| {
-        let lines = logs[side].chunks_exact(LINE);
-        let ticks = pair.lists[side].iter().zip(lines);
-        ticks
-            .filter(|&(&number, _)| number == 0)
-            .map(|(_, line)| line)
-    };
-    let sees_all = (0..pair.policy.class_count()).all(|class| pair.sees(class));
-    let met = [
-        ("pairs", true),
-        ("pairs of different lists", left != right),
-        ("pairs with different logs of ticks", ticks(0).ne(ticks(1))),
-        (
-            "pairs with lists of different lengths",
-            left.len() != right.len(),
-        ),
-        ("pairs in which all classes may flow to L", sees_all),
-    ];
-    for (name, met) in met {
-        tally.add(name, u64::from(met));
+/// "hand back the same count and write the same numbers"
+fn difference([left, right]: &[Told; 2]) -> Option<Leak> {
+    if left.status != right.status {
+        let what = format!("statuses {} and {}", left.status, right.status);
+        return Some((Check::Refusal, what));
     }
-    let [mut hidden, mut missing, mut malformed] = [0; 3];
-    for &number in left.iter().chain(right) {
-        match Word::of(number) {
-            Word::Offer(request) => {
-                let class = usize::from(request.class);
-                let exists = class < pair.policy.class_count();
-                hidden += u64::from(exists && !pair.sees(class));
-                missing += u64::from(!exists);
-            }
-            Word::Malformed => malformed += 1,
-            Word::Tick => {}
-        }
+    if left.count != right.count {
+        let what = format!("counts {} and {}", left.count, right.count);
+        return Some((Check::Count, what));
     }
-    tally.add("offers of hidden classes in one list or the other", hidden);
-    tally.add(
-        "offers of missing classes in one list or the other",
-        missing,
+    let [left_numbers, right_numbers] = [&left.numbers, &right.numbers];
+    let differ = |&place: &usize| left_numbers[place] != right_numbers[place];
+    let place = (0..left_numbers.len()).find(differ)?;
+    let what = format!(
+        "number {place} is {:08X} and {:08X}",
+        left_numbers[place], right_numbers[place]
     );
-    tally.add("malformed words in one list or the other", malformed);
-}
-
-/// Counts the lines of an extract of a run's log. Whose they are is not asked.
-fn count_seen(extract: &[u32], tally: &mut Tally) {
-    let [mut activates, mut columns, mut answers] = [0; 3];
-    let [mut turns, mut hidden_turns, mut refused] = [0; 3];
-    for line in extract.chunks_exact(LINE) {
-        let column = line[1] & COLUMN_BIT != 0;
-        activates += u64::from(line[1] & OFFER_BIT != 0 && !column);
-        columns += u64::from(column);
-        answers += u64::from(line[2] != 0);
-        turns += u64::from(line[3] & 0xFF != 0);
-        hidden_turns += u64::from(line[3] == HIDDEN_TURN);
-        refused += u64::from(line[0] == 10 || line[0] == 11);
-    }
-    tally.add("activates seen", activates);
-    tally.add("columns seen", columns);
-    tally.add("answers seen", answers);
-    tally.add("turns seen", turns);
-    tally.add("turns hidden", hidden_turns);
-    tally.add("refused offers seen", refused);
+    Some((Check::of_number(place, left.count), what))
 }
 
 // ---------------------------------------------------------------------------
@@ -211,45 +130,155 @@ fn count_seen(extract: &[u32], tally: &mut Tally) {
 
 #[test]
 fn the_library_shows_no_leak() {
-    let mut tally = Tally::new(MUST_BE_MET);
-    assert_eq!(search(&Library, pairs(), &mut tally), None);
-    tally.require_all_met();
+    let mut met = Met::default();
+    let pairs = seeds("VIGAMBUL_PAIRS", ORDINARY_PAIRS);
+    assert_eq!(search(&Library, pairs, &mut met), None);
+    println!("{}", met.report());
+    assert_eq!(met.too_little(), [""; 0]);
+}
+
+/// Each planted leak must be found in these: a tenth of the pairs.
+fn pairs_enough() -> Range<u64> {
+    seeds("VIGAMBUL_PAIRS", PAIRS_ENOUGH)
+}
+
+/// The same search finds a leak in something that leaks.
+fn finds(calls: &impl Calls, name: &str) -> Option<Check> {
+    let mut met = Met::default();
+    let leak = search(calls, pairs_enough(), &mut met);
+    println!("{name} after {} pairs: {leak:?}", met.pairs() + 1);
+    assert!(leak.is_some(), "{name} was not found");
+    leak.map(|(check, _)| check)
 }
 
 #[test]
 fn every_planted_leak_of_the_model_is_found() {
-    let planted = [
-        Planted::AlwaysElided,
-        Planted::Document000Elision,
-        Planted::EpochEndForgotten,
-        Planted::HigherAskedFirst,
-        Planted::TurnReclaimed,
-    ];
-    for planted in planted {
-        finds(&Model(planted), &format!("{planted:?}"));
+    for planted in planted::LEAKS {
+        let check = match planted {
+            // A refused run of the library leaves no state to go on from.
+            Planted::RefusedRunMakesItsCalls => continue,
+            _ => finds(&Model(planted), &format!("{planted:?}")),
+        };
+        let by_the_run = planted == Planted::RunAnswersForItsLastWord;
+        assert_eq!(check == Some(Check::Run), by_the_run, "{planted:?}");
     }
 }
 
+/// Each wrong extract that leaks, and the comparison that tells it.
 #[test]
 fn every_extract_that_leaks_is_found() {
     for wrong in LEAKS {
-        finds(&WithWrongExtract(wrong), &format!("{wrong:?}"));
+        let expected = match wrong {
+            Wrong::KeepsMalformedWords
+            | Wrong::KeepsOffersOfHiddenClasses
+            | Wrong::KeepsOffersOfMissingClasses => Check::Count,
+            Wrong::ShowsHiddenCommands | Wrong::ShowsThatWiresAreBusy => Check::Command,
+            Wrong::ShowsHiddenAnswers => Check::Answer,
+            Wrong::ShowsHiddenOwners | Wrong::ShowsHiddenDeadTimes => Check::Turn,
+            // Both lists have too little room, or both more than they need.
+            Wrong::AsksRoomForAll | Wrong::SeesClassesAbove => Check::Room,
+            _ => panic!("{wrong:?} is not said to leak"),
+        };
+        let check = finds(&WithWrongExtract(wrong), &format!("{wrong:?}"));
+        assert_eq!(check, Some(expected), "{wrong:?}");
     }
-}
-
-/// The same search finds a leak in something that leaks.
-fn finds(calls: &impl Calls, name: &str) {
-    let leak = search(calls, pairs(), &mut Tally::new(MUST_BE_MET));
-    println!("{name}: {leak:?}");
-    assert!(leak.is_some(), "{name} was not found");
 }
 
 #[test]
 fn nothing_is_found_where_nothing_is_planted() {
-    let mut tally = Tally::new(MUST_BE_MET);
+    let met = &mut Met::default();
     let model = Model(Planted::Nothing);
-    assert_eq!(search(&model, pairs(), &mut tally), None);
+    assert_eq!(search(&model, pairs_enough(), met), None);
     // The extract whose wrong cousins are found.
     let right = WithWrongExtract(Wrong::Nothing);
-    assert_eq!(search(&right, pairs(), &mut tally), None);
+    assert_eq!(search(&right, pairs_enough(), met), None);
+}
+
+// ---------------------------------------------------------------------------
+// Refused ticks.
+
+/// Ticks that get 12 in each of the two lists of the pair that has them.
+const REFUSED_TICKS: usize = 60;
+
+/// A pair of lists that go on after the last tick. L is class 0 of the diamond:
+/// 2 may flow to it, 1 and 3 may not.
+fn pair_past_the_last_tick() -> Pair {
+    let file = diamond();
+    let policy = accepted(&file);
+    let class = 0;
+    let seen = |number: u32| match Word::of(number) {
+        Word::Offer(request) => policy.flows(usize::from(request.class), class),
+        _ => true,
+    };
+    let random = &mut Random::new(12);
+    let mut left = long::numbers_to_the_last_tick(8, &file);
+    // The neighbours of the second list ask at other times, and seldom.
+    let mut right = Vec::with_capacity(left.len());
+    for &number in &left {
+        if seen(number) {
+            right.push(number);
+        }
+        if random.below(40) == 0 {
+            right.push(sound_offer(random, 3, 8));
+        }
+    }
+    for _ in 0..REFUSED_TICKS {
+        let of_below = 2 * random.below(2) as u8;
+        let shared = sound_offer(random, of_below, 8);
+        for (list, neighbour) in [(&mut left, 1), (&mut right, 3)] {
+            if random.below(2) == 0 {
+                list.extend([sound_offer(random, neighbour, 8), malformed_word(random)]);
+            }
+            list.extend([shared, 0]);
+        }
+    }
+    Pair {
+        file,
+        policy,
+        class,
+        lists: [left, right],
+        cuts: [Cut::OneRun; 2],
+    }
+}
+
+/// What an extract with room for just what is kept told of a list that is too
+/// long to hold it twice: its count, its refused ticks, and a number for each
+/// block of 65,536 lines.
+#[derive(Debug, PartialEq, Eq)]
+struct ToldOfMany {
+    count: usize,
+    refused_ticks: usize,
+    blocks: Vec<u64>,
+}
+
+impl ToldOfMany {
+    fn new(calls: &impl Calls, pair: &Pair, side: usize, needed: usize) -> ToldOfMany {
+        let log = run(calls, pair, side).expect("the run is taken");
+        let told = Told::new(calls, pair, side, &log, needed);
+        assert_eq!(told.status, 0);
+        let lines = told.numbers.chunks_exact(LINE);
+        let block = |numbers: &[u32]| {
+            let mut hasher = DefaultHasher::new();
+            numbers.hash(&mut hasher);
+            hasher.finish()
+        };
+        ToldOfMany {
+            count: told.count,
+            refused_ticks: lines.filter(|line| line[0] == 12).count(),
+            blocks: told.numbers.chunks(LINE * 65_536).map(block).collect(),
+        }
+    }
+}
+
+#[test]
+fn two_lists_with_refused_ticks_tell_the_same() {
+    let pair = pair_past_the_last_tick();
+    let purged = [0, 1].map(|side| leaks::purge(&pair.policy, pair.class, &pair.lists[side]));
+    assert!(purged[0] == purged[1], "the lists agree");
+    assert!(pair.lists[0].len() != pair.lists[1].len());
+    let needed = LINE * purged[0].len();
+    let told = [0, 1].map(|side| ToldOfMany::new(&Library, &pair, side, needed));
+    assert_eq!(told[0].count, needed);
+    assert_eq!(told[0].refused_ticks, REFUSED_TICKS);
+    assert_eq!(told[0], told[1]);
 }

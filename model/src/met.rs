@@ -1,0 +1,189 @@
+//! What a search for leaks met: pairs that are all alike, or in which nothing
+//! happens, show nothing.
+
+use std::collections::BTreeMap;
+
+use crate::extract::HIDDEN_TURN;
+use crate::pairs::{Cut, Pair};
+use crate::policy::MOST_CLASSES;
+use crate::refusal::Refusal;
+use crate::trace::{Word, COLUMN_BIT, LINE, OFFER_BIT};
+
+/// What is counted, and how much of it so many pairs must have met.
+type Counted = (&'static str, fn(u64) -> u64);
+
+const COUNTED: [Counted; 28] = [
+    ("pairs compared", |pairs| pairs),
+    ("pairs of different lists", |pairs| pairs / 2),
+    ("pairs with lists of different lengths", |pairs| pairs / 2),
+    ("pairs with different logs of ticks", |pairs| pairs / 2),
+    // Nothing to hide but what is struck out of every list.
+    ("pairs in which all classes may flow to L", |_| 1),
+    ("pairs of sixteen classes", |pairs| pairs / 6),
+    ("pairs with another least class than 0", |pairs| pairs / 2),
+    ("pairs past the end of an epoch above 5", |pairs| pairs / 20),
+    ("pairs past the end of an epoch above 16", |pairs| {
+        pairs / 100
+    }),
+    // With two turns of them at least.
+    ("pairs with turns above 239", |pairs| pairs / 100),
+    ("lists of 4,000 ticks", |pairs| pairs / 1_000),
+    ("lists whose last number is an offer", |pairs| pairs / 10),
+    ("lists whose last number is malformed", |pairs| pairs / 20),
+    ("lists to be cut into runs", |pairs| pairs / 10),
+    ("lists to be cut into single calls", |pairs| pairs / 20),
+    ("calls", |pairs| 100 * pairs),
+    ("offers of hidden classes", |pairs| 10 * pairs),
+    ("offers of missing classes", |pairs| pairs),
+    ("malformed words", |pairs| pairs),
+    // Hidden or seen.
+    ("offers to full queues", |pairs| pairs),
+    ("numbers of extracts", |pairs| 100 * pairs),
+    ("activates seen", |pairs| 8 * pairs),
+    ("columns seen", |pairs| 8 * pairs),
+    ("answers seen", |pairs| 8 * pairs),
+    ("turns seen", |pairs| pairs),
+    ("turns hidden", |pairs| pairs),
+    ("offers seen that 10 refuses", |pairs| pairs / 10),
+    ("offers seen that 11 refuses", |pairs| pairs),
+];
+
+/// How much a search met of all that is counted.
+#[derive(Clone, Debug, PartialEq, Eq)]
+pub struct Met {
+    counts: BTreeMap<&'static str, u64>,
+}
+
+impl Default for Met {
+    fn default() -> Met {
+        let counts = COUNTED.iter().map(|&(name, _)| (name, 0)).collect();
+        Met { counts }
+    }
+}
+
+impl Met {
+    /// The pairs that were compared, one with a leak counted.
+    pub fn pairs(&self) -> u64 {
+        self.counts["pairs compared"]
+    }
+
+    /// What was met less than so many pairs must meet it.
+    pub fn too_little(&self) -> Vec<&'static str> {
+        let enough = |&(name, least): &Counted| self.counts[name] >= least(self.pairs());
+        let few = COUNTED.iter().filter(|counted| !enough(counted));
+        few.map(|&(name, _)| name).collect()
+    }
+
+    /// Each count in a line.
+    pub fn report(&self) -> String {
+        let line = |&(name, _): &Counted| format!("{name}: {}\n", self.counts[name]);
+        COUNTED.iter().map(line).collect()
+    }
+
+    /// Counts what is in the list of names above, and nothing else.
+    fn add(&mut self, name: &'static str, times: usize) {
+        match self.counts.get_mut(name) {
+            Some(count) => *count += times as u64,
+            None => panic!("`{name}` is not counted"),
+        }
+    }
+
+    fn add_if(&mut self, condition: bool, name: &'static str) {
+        self.add(name, usize::from(condition));
+    }
+
+    /// Counts a pair, by its logs and by what the extract of the first of them
+    /// wrote.
+    pub fn add_pair(&mut self, pair: &Pair, logs: [&[u32]; 2], extract: &[u32]) {
+        self.add("pairs compared", 1);
+        self.add_policy(pair);
+        self.add_lists(pair);
+        let [left, right] = [0, 1].map(|side| pair.ticks_of(side, logs[side]));
+        self.add_if(left.ne(right), "pairs with different logs of ticks");
+        for log in logs {
+            self.add("offers to full queues", refused(log, Refusal::QueueFull));
+        }
+        self.add_seen(extract);
+    }
+
+    fn add_policy(&mut self, pair: &Pair) {
+        let policy = &pair.policy;
+        let n = policy.class_count();
+        let sees_all = (0..n).all(|class| pair.sees(class));
+        self.add_if(sees_all, "pairs in which all classes may flow to L");
+        self.add_if(n == MOST_CLASSES, "pairs of sixteen classes");
+        let least = policy.least();
+        self.add_if(least != 0, "pairs with another least class than 0");
+        let ticks = pair.ticks();
+        let turn_length = usize::from(policy.timing.turn_length);
+        let epoch = usize::from(policy.epoch);
+        let past_epoch = ticks > epoch * turn_length;
+        self.add_if(
+            epoch > 5 && past_epoch,
+            "pairs past the end of an epoch above 5",
+        );
+        self.add_if(
+            epoch > 16 && past_epoch,
+            "pairs past the end of an epoch above 16",
+        );
+        let long_turns = turn_length >= 240 && ticks > turn_length;
+        self.add_if(long_turns, "pairs with turns above 239");
+        self.add("lists of 4,000 ticks", 2 * usize::from(ticks >= 4_000));
+    }
+
+    fn add_lists(&mut self, pair: &Pair) {
+        let [left, right] = &pair.lists;
+        self.add_if(left != right, "pairs of different lists");
+        let lengths = left.len() != right.len();
+        self.add_if(lengths, "pairs with lists of different lengths");
+        for (list, cut) in pair.lists.iter().zip(pair.cuts) {
+            self.add("calls", list.len());
+            match list.last().map(|&number| Word::of(number)) {
+                Some(Word::Offer(_)) => self.add("lists whose last number is an offer", 1),
+                Some(Word::Malformed) => self.add("lists whose last number is malformed", 1),
+                Some(Word::Tick) | None => {}
+            }
+            self.add_if(cut == Cut::Runs, "lists to be cut into runs");
+            let single = cut == Cut::SingleCalls;
+            self.add_if(single, "lists to be cut into single calls");
+        }
+        let [mut hidden, mut missing, mut malformed] = [0; 3];
+        for &number in left.iter().chain(right) {
+            match Word::of(number) {
+                Word::Offer(request) => {
+                    let class = usize::from(request.class);
+                    let exists = class < pair.policy.class_count();
+                    hidden += usize::from(exists && !pair.sees(class));
+                    missing += usize::from(!exists);
+                }
+                Word::Malformed => malformed += 1,
+                Word::Tick => {}
+            }
+        }
+        self.add("offers of hidden classes", hidden);
+        self.add("offers of missing classes", missing);
+        self.add("malformed words", malformed);
+    }
+
+    fn add_seen(&mut self, extract: &[u32]) {
+        let count = |is: fn(&[u32]) -> bool| extract.chunks_exact(LINE).filter(|&l| is(l)).count();
+        let column = |line: &[u32]| line[1] & COLUMN_BIT != 0;
+        let activate = |line: &[u32]| line[1] & (OFFER_BIT | COLUMN_BIT) == OFFER_BIT;
+        self.add("numbers of extracts", extract.len());
+        self.add("activates seen", count(activate));
+        self.add("columns seen", count(column));
+        self.add("answers seen", count(|line| line[2] != 0));
+        self.add("turns seen", count(|line| line[3] & 0xFF != 0));
+        self.add("turns hidden", count(|line| line[3] == HIDDEN_TURN));
+        let [of_bank_or_kind, of_queue] =
+            [Refusal::BankOrKind, Refusal::QueueFull].map(|number| refused(extract, number));
+        self.add("offers seen that 10 refuses", of_bank_or_kind);
+        self.add("offers seen that 11 refuses", of_queue);
+    }
+}
+
+/// The lines that a number refuses.
+fn refused(log: &[u32], by: Refusal) -> usize {
+    let lines = log.chunks_exact(LINE);
+    lines.filter(|line| line[0] == by.number()).count()
+}

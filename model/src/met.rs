@@ -12,7 +12,7 @@ use crate::trace::{Word, COLUMN_BIT, LINE, OFFER_BIT};
 /// What is counted, and how much of it so many pairs must have met.
 type Counted = (&'static str, fn(u64) -> u64);
 
-const COUNTED: [Counted; 28] = [
+const COUNTED: [Counted; 30] = [
     ("pairs compared", |pairs| pairs),
     ("pairs of different lists", |pairs| pairs / 2),
     ("pairs with lists of different lengths", |pairs| pairs / 2),
@@ -25,8 +25,10 @@ const COUNTED: [Counted; 28] = [
     ("pairs past the end of an epoch above 16", |pairs| {
         pairs / 100
     }),
+    ("pairs past the end of an epoch of 64", |pairs| pairs / 500),
     // With two turns of them at least.
     ("pairs with turns above 239", |pairs| pairs / 100),
+    ("pairs with turns of 255", |pairs| pairs / 500),
     ("lists of 4,000 ticks", |pairs| pairs / 1_000),
     ("lists whose last number is an offer", |pairs| pairs / 10),
     ("lists whose last number is malformed", |pairs| pairs / 20),
@@ -117,17 +119,15 @@ impl Met {
         let ticks = pair.ticks();
         let turn_length = usize::from(policy.timing.turn_length);
         let epoch = usize::from(policy.epoch);
-        let past_epoch = ticks > epoch * turn_length;
-        self.add_if(
-            epoch > 5 && past_epoch,
-            "pairs past the end of an epoch above 5",
-        );
-        self.add_if(
-            epoch > 16 && past_epoch,
-            "pairs past the end of an epoch above 16",
-        );
-        let long_turns = turn_length >= 240 && ticks > turn_length;
-        self.add_if(long_turns, "pairs with turns above 239");
+        if ticks > epoch * turn_length {
+            self.add_if(epoch > 5, "pairs past the end of an epoch above 5");
+            self.add_if(epoch > 16, "pairs past the end of an epoch above 16");
+            self.add_if(epoch == 64, "pairs past the end of an epoch of 64");
+        }
+        if ticks > turn_length {
+            self.add_if(turn_length > 239, "pairs with turns above 239");
+            self.add_if(turn_length == 255, "pairs with turns of 255");
+        }
         self.add("lists of 4,000 ticks", 2 * usize::from(ticks >= 4_000));
     }
 

@@ -4,12 +4,11 @@ mod common;
 
 use std::fs::OpenOptions;
 use std::io::Write;
-use std::process::{Command, Stdio};
+use std::process::Command;
 use std::thread;
 use std::time::Duration;
 
 use common::*;
-use vigambul_compare::built;
 use vigambul_model::generate::encode_bodies;
 use vigambul_model::program;
 use vigambul_model::random::Random;
@@ -65,11 +64,7 @@ fn a_trace_that_arrives_in_pieces_of_any_length() {
         let pipe = folder.path().join("trace.bin");
         let made = Command::new("mkfifo").arg(&pipe).status();
         assert!(made.expect("mkfifo runs").success());
-        let mut child = command_in(built::program(), &folder)
-            .stdout(Stdio::piped())
-            .stderr(Stdio::piped())
-            .spawn()
-            .expect("the program starts");
+        let mut child = start_program(&folder);
         let expected = program::output(&file, &trace);
         let mut stdout = child.stdout.take().expect("its output");
         let reader = thread::spawn(move || {

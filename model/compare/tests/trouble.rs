@@ -6,7 +6,7 @@ mod common;
 use std::fs::{self, OpenOptions};
 use std::io::Read;
 use std::os::unix::process::ExitStatusExt;
-use std::process::{Child, Command, Stdio};
+use std::process::{Command, Stdio};
 
 use common::*;
 use vigambul_compare::built;
@@ -31,14 +31,6 @@ fn says(mut command: Command, expected: &str) -> Vec<u8> {
         stdout.read_to_end(&mut printed).expect("its output");
     }
     printed
-}
-
-/// What a program that has ended wrote to standard error.
-fn words_of(child: &mut Child) -> String {
-    let mut words = String::new();
-    let stderr = child.stderr.as_mut().expect("its standard error");
-    stderr.read_to_string(&mut words).expect("words");
-    words
 }
 
 /// A folder whose output is much longer than any buffer.

@@ -332,24 +332,52 @@ pub fn command_in(program: impl AsRef<Path>, folder: &Folder) -> Command {
     command
 }
 
-/// Runs the built program in a folder. One that does not end is ended.
-pub fn run_program(folder: &Folder) -> Output {
-    let child = command_in(built::program(), folder)
+/// Ends a program that does not end by itself, so that a test that reads from it
+/// does not wait for ever.
+struct Watch {
+    ended: Option<mpsc::Sender<()>>,
+    thread: Option<thread::JoinHandle<()>>,
+}
+
+impl Watch {
+    fn new(child: &Child) -> Watch {
+        let id = child.id().to_string();
+        let (ended, still_runs) = mpsc::channel::<()>();
+        let thread = thread::spawn(move || {
+            if still_runs.recv_timeout(LONGEST_RUN) == Err(RecvTimeoutError::Timeout) {
+                let _ = Command::new("kill").args(["-KILL", &id]).status();
+            }
+        });
+        Watch {
+            ended: Some(ended),
+            thread: Some(thread),
+        }
+    }
+}
+
+impl Drop for Watch {
+    fn drop(&mut self) {
+        self.ended.take();
+        if let Some(thread) = self.thread.take() {
+            let _ = thread.join();
+        }
+    }
+}
+
+/// Starts the built program in a folder, with its output and its words kept.
+pub fn start_program(folder: &Folder) -> Child {
+    command_in(built::program(), folder)
         .stdout(Stdio::piped())
         .stderr(Stdio::piped())
         .spawn()
-        .expect("the program starts");
-    let id = child.id().to_string();
-    let (ended, still_runs) = mpsc::channel::<()>();
-    let watch = thread::spawn(move || {
-        if still_runs.recv_timeout(LONGEST_RUN) == Err(RecvTimeoutError::Timeout) {
-            let _ = Command::new("kill").args(["-KILL", &id]).status();
-        }
-    });
-    let output = child.wait_with_output().expect("the program's output");
-    drop(ended);
-    watch.join().expect("the watch ends");
-    output
+        .expect("the program starts")
+}
+
+/// Runs the built program in a folder. One that does not end is ended.
+pub fn run_program(folder: &Folder) -> Output {
+    let child = start_program(folder);
+    let _watch = Watch::new(&child);
+    child.wait_with_output().expect("the program's output")
 }
 
 /// Runs the built program on a long trace, compares every line on the way with
@@ -357,11 +385,8 @@ pub fn run_program(folder: &Folder) -> Output {
 pub fn stream_program(name: &str, policy_file: &[u8], numbers: &[u32]) -> u64 {
     let folder = Folder::new(name);
     folder.put_both(policy_file, &trace_file(numbers));
-    let mut child = command_in(built::program(), &folder)
-        .stdout(Stdio::piped())
-        .stderr(Stdio::piped())
-        .spawn()
-        .expect("the program starts");
+    let mut child = start_program(&folder);
+    let watch = Watch::new(&child);
     let mut printed = child.stdout.take().expect("its output");
     let mut header = vec![0; HEADER.len()];
     printed.read_exact(&mut header).expect("the header");
@@ -394,10 +419,20 @@ pub fn stream_program(name: &str, policy_file: &[u8], numbers: &[u32]) -> u64 {
     let mut rest = Vec::new();
     printed.read_to_end(&mut rest).expect("the end");
     assert_eq!(rest, b"", "nothing after the last line");
-    wait_for_end(&mut child);
+    drop(watch);
+    assert!(wait_for_end(&mut child).success());
+    assert_eq!(words_of(&mut child), "", "nothing on standard error");
     assert!(peak > 0, "the memory of the program was never seen");
     println!("{} numbers: {peak} KiB", numbers.len());
     peak
+}
+
+/// What a program that has ended wrote to standard error, which was kept.
+pub fn words_of(child: &mut Child) -> String {
+    let mut words = String::new();
+    let stderr = child.stderr.as_mut().expect("its standard error");
+    stderr.read_to_string(&mut words).expect("words");
+    words
 }
 
 /// The most memory that a running program has held, in KiB.

@@ -24,7 +24,7 @@ const REFUSALS: [u32; 12] = [1, 2, 3, 4, 5, 6, 7, 8, 9, 10, 11, 14];
 const FAIR: u64 = 5;
 
 /// Everything else that is counted.
-const CASES: [&str; 53] = [
+const CASES: [&str; 54] = [
     "file under 17 bytes",
     "file above 65,535 bytes",
     "least class not 0",
@@ -48,6 +48,7 @@ const CASES: [&str; 53] = [
     "the end of an epoch of 7 to 16 turns",
     "the end of an epoch of 17 to 64 turns",
     "a chain of sixteen walked to its top",
+    "a trial walk to the top of a chain of sixteen",
     "a mark that goes back to 1 from fifteen children",
     "dropped, the owner is the least class",
     "dropped, the trial walk passes classes without turns left",
@@ -362,15 +363,15 @@ impl Coverage {
                 _ => self.met("the end of an epoch of 17 to 64 turns"),
             }
         }
-        // With a least class and one child at most, all are in a row.
-        let children = |class: usize| policy.covers_of(class).len();
-        let in_a_row = (0..policy.class_count()).all(|class| children(class) <= 1);
-        self.met_if(
-            in_a_row && policy.class_count() == MOST_CLASSES && children(state.owner) == 0,
-            "a chain of sixteen walked to its top",
-        );
         let by = turns_left_before_next(policy, turn);
         let outcome = lookahead(policy, state, by);
+        if is_chain_of_sixteen(policy) && policy.covers_of(state.owner).is_empty() {
+            self.met("a chain of sixteen walked to its top");
+            self.met_if(
+                outcome == Lookahead::ReachesOwner,
+                "a trial walk to the top of a chain of sixteen",
+            );
+        }
         let least = state.owner == policy.least();
         self.met(match outcome {
             Lookahead::ReachesOwner if least => "dropped, the owner is the least class",
@@ -391,6 +392,12 @@ impl Coverage {
             "dropped by document 000's test alone",
         );
     }
+}
+
+/// With a least class and one child at most, all are in a row.
+fn is_chain_of_sixteen(policy: &Policy) -> bool {
+    policy.class_count() == MOST_CLASSES
+        && (0..MOST_CLASSES).all(|class| policy.covers_of(class).len() <= 1)
 }
 
 fn refusal_name(number: u32) -> String {

@@ -108,7 +108,7 @@ pub fn sound_fields(random: &mut Random) -> PolicyFields {
     // The most is an edge of marks, masks and class numbers.
     let n = random.between(1, MOST_CLASSES + 2).min(MOST_CLASSES);
     let rows = sound_rows(random, n);
-    let (epoch, minimums) = sound_turns(random, n);
+    let (epoch, minimums) = sound_turns(random, &rows);
     PolicyFields::new(&rows, epoch, &minimums, sound_timing(random))
 }
 
@@ -159,7 +159,7 @@ pub(crate) fn sound_rows(random: &mut Random, n: usize) -> Vec<u16> {
 }
 
 /// An epoch and minimums, often at their edges.
-fn sound_turns(random: &mut Random, n: usize) -> (u8, Vec<u8>) {
+fn sound_turns(random: &mut Random, rows: &[u16]) -> (u8, Vec<u8>) {
     let longest = usize::from(LONGEST_EPOCH);
     let epoch = match random.below(8) {
         0 => 1,
@@ -173,9 +173,17 @@ fn sound_turns(random: &mut Random, n: usize) -> (u8, Vec<u8>) {
         2 => epoch - 1,
         _ => random.below(epoch + 1),
     };
+    let n = rows.len();
     let mut minimums = vec![0; n];
-    for _ in 0..sum {
-        minimums[random.below(n)] += 1;
+    // At times all are with a class that has nothing above it: those below it have
+    // few turns then, and often none.
+    let tops: Vec<usize> = (0..n).filter(|&class| rows[class] == 1 << class).collect();
+    if random.percent(25) {
+        minimums[*random.pick(&tops)] = if random.percent(50) { epoch } else { sum } as u8;
+    } else {
+        for _ in 0..sum {
+            minimums[random.below(n)] += 1;
+        }
     }
     (epoch as u8, minimums)
 }
@@ -525,8 +533,8 @@ fn with_rows(
     change: impl Fn(&mut Random, &mut Vec<u16>),
 ) -> Vec<u8> {
     let mut rows = sound_rows(random, n);
+    let (epoch, minimums) = sound_turns(random, &rows);
     change(random, &mut rows);
-    let (epoch, minimums) = sound_turns(random, n);
     PolicyFields::new(&rows, epoch, &minimums, sound_timing(random)).encode()
 }
 
@@ -568,30 +576,53 @@ fn padded_to(random: &mut Random, length: usize) -> Vec<u8> {
     file
 }
 
-/// A file that several numbers could refuse: the lowest must.
+/// A file that several numbers could refuse: the lowest must. Each of them is the
+/// lowest at times.
 fn damaged_twice(random: &mut Random) -> Vec<u8> {
     let mut fields = sound_fields(random);
-    let n = fields.rows.len();
-    for _ in 0..random.between(2, 4) {
-        let class = random.below(n);
-        match random.below(9) {
-            0 => fields.n = fields.n.wrapping_add(1),
-            1 => fields.rows[class] &= !(1 << class),
-            2 => fields.rows[class] = ((1u32 << n) - 1) as u16,
-            3 => fields.rows[class] = 1 << class,
-            4 => fields.rows[class] &= 1 << class | random.next() as u16,
-            5 => (0..n).for_each(|class| fields.rows[class] = 1 << class),
-            6 => fields.epoch = 0,
-            7 => fields.minimums[class] = 65,
-            _ => fields.timing[random.below(TIMING_LENGTH)] = 0,
-        }
+    let lowest = random.below(FAULTS.len() - 2);
+    for _ in 0..random.between(1, 3) {
+        let later = random.between(lowest + 1, FAULTS.len() - 1);
+        FAULTS[later](random, &mut fields);
     }
+    FAULTS[lowest](random, &mut fields);
     let mut file = fields.encode();
     if random.percent(20) {
         file.push(0);
     }
     file
 }
+
+/// Faults that can stand in one file together, by the numbers that refuse them: 2
+/// to 6, 7 for E and for a minimum, 8. With few classes some are none.
+const FAULTS: [fn(&mut Random, &mut PolicyFields); 8] = [
+    |_, fields| fields.n = fields.n.wrapping_add(1),
+    |random, fields| {
+        let class = random.below(fields.rows.len());
+        fields.rows[class] &= !(1 << class);
+    },
+    |random, fields| {
+        let n = fields.rows.len();
+        fields.rows[random.below(n)] = ((1u32 << n) - 1) as u16;
+    },
+    |_, fields| {
+        // A chain in which the first may not flow to the last.
+        let n = fields.rows.len();
+        let from = |class: usize| (class..n).map(|upper| 1 << upper).sum();
+        fields.rows = (0..n).map(from).collect();
+        fields.rows[0] &= !(1 << (n - 1)) | 1;
+    },
+    |_, fields| {
+        let alone = (0..fields.rows.len()).map(|class| 1 << class);
+        fields.rows = alone.collect();
+    },
+    |_, fields| fields.epoch = 0,
+    |random, fields| {
+        let class = random.below(fields.minimums.len());
+        fields.minimums[class] = 65;
+    },
+    |random, fields| fields.timing[random.below(TIMING_LENGTH)] = 0,
+];
 
 fn flipped_bit(random: &mut Random) -> Vec<u8> {
     let mut file = sound_file(random);

@@ -51,7 +51,7 @@ pub struct Policy {
     pub caps: Vec<u8>,
 }
 
-/// A number of the table, and what must hold lest it refuses a policy.
+/// A number of the table, and what holds of the policies that it does not refuse.
 type Condition = (Refusal, fn(&Policy) -> bool);
 
 impl Policy {

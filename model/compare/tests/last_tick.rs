@@ -22,9 +22,10 @@ fn numbers_past_the_last_tick(policy: &Policy) -> Vec<u32> {
     numbers
 }
 
-/// What is known of the log after the last tick, whatever stood before it.
-fn check_past_the_last_tick(log: &[u32], ticks: usize) {
-    let (before, after) = log.split_at(LINE * ticks);
+/// What is known of the log after the last tick, whatever the numbers up to it
+/// were.
+fn check_past_the_last_tick(log: &[u32], to_the_last_tick: usize) {
+    let (before, after) = log.split_at(LINE * to_the_last_tick);
     let last_tick = &before[before.len() - LINE..];
     assert_eq!(last_tick[0], 0, "tick number 16,777,214 is not refused");
     let statuses: Vec<u32> = after
@@ -43,12 +44,13 @@ fn the_tick_after_16_777_215_ticks_is_refused_and_the_run_goes_on() {
     for (seed, (name, file)) in (0..).zip(long::policies()) {
         let policy = accepted(&file);
         let mut numbers = long::numbers_to_the_last_tick(seed, &file);
-        let ticks = numbers.len();
+        assert_eq!(numbers.last(), Some(&0), "{name}: a tick");
+        let to_the_last_tick = numbers.len();
         numbers.extend(numbers_past_the_last_tick(&policy));
         let mut log = vec![FILLER; LINE * numbers.len() + 1];
         assert_eq!(library::run(&file, &numbers, &mut log), 0, "{name}");
         assert_eq!(log.pop(), Some(FILLER), "{name}: a number past the log");
-        check_past_the_last_tick(&log, ticks);
+        check_past_the_last_tick(&log, to_the_last_tick);
 
         // The whole log, in blocks, since a second one would need as much memory.
         let (mut state, _) = state::fresh(&policy);

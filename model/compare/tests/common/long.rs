@@ -65,8 +65,8 @@ fn tree_of_nine() -> Vec<u8> {
     PolicyFields::new(&rows, 13, &[1, 2, 1, 1, 0, 2, 1, 2, 1], timing).encode()
 }
 
-/// The numbers of a list up to the last tick that is not refused, made from a
-/// seed.
+/// The numbers of a list that ends with the last tick that is not refused, made
+/// from a seed.
 pub fn numbers_to_the_last_tick(seed: u64, file: &[u8]) -> Vec<u32> {
     let policy = accepted(file);
     let mut writer = Writer {
@@ -132,8 +132,11 @@ impl Writer {
     }
 
     fn offer(&mut self, word: u32) {
-        self.numbers.push(word);
-        self.controller.call(word);
+        // The list ends with its last tick.
+        if self.cycle < LAST_CYCLE {
+            self.numbers.push(word);
+            self.controller.call(word);
+        }
     }
 
     fn offer_of_any(&mut self) {

@@ -365,6 +365,33 @@ fn stored() -> String {
     lines.collect()
 }
 
+/// Stored policies, each by itself: whether it is in range. The proved policy has sixteen places for
+/// rows, minimums, children and caps; the model has only those of its classes, and of a number that
+/// stands past them "no" is what the proved program is to answer.
+fn stored_policies() -> String {
+    let changes: [(&str, fn(&mut Policy)); 6] = [
+        ("as its file gives it", |_| ()),
+        ("of 17 classes", |policy| policy.rows.resize(17, 0)),
+        ("of 0 classes", |policy| policy.rows.clear()),
+        ("with wrong covers", |policy| policy.covers[0] = vec![1]),
+        ("with a cap one too large", |policy| policy.caps[0] += 1),
+        ("with a cap one too small", |policy| policy.caps[0] -= 1),
+    ];
+    let (first, last) = changes.split_at(3);
+    let answered = |(name, change): &(&str, fn(&mut Policy))| {
+        let mut policy = fork();
+        change(&mut policy);
+        let answer = if policy.in_range() { "yes" } else { "no" };
+        format!("a stored policy {name}: {answer}\n")
+    };
+    let past = ["a row", "a minimum", "covers", "a cap"]
+        .iter()
+        .flat_map(|what| [3, 15].map(|place| (what, place)))
+        .map(|(what, place)| format!("a stored policy with {what} at {place}: no\n"));
+    let first = first.iter().map(answered);
+    first.chain(past).chain(last.iter().map(answered)).collect()
+}
+
 /// What every number of a log is before a run.
 const MARKER: u32 = 7777;
 
@@ -765,7 +792,7 @@ fn extracts() -> String {
 fn the_proved_program_answers_as_the_model_does() {
     let stored = Path::new(env!("CARGO_MANIFEST_DIR")).join("../crates/cases/stdout");
     let stored = fs::read_to_string(stored).expect("the stored output of cases");
-    let answers = files() + &calls() + &runs() + &extracts();
+    let answers = files() + &calls() + &runs() + &extracts() + &stored_policies();
     for (place, (proved, model)) in stored.lines().zip(answers.lines()).enumerate() {
         assert_eq!(proved, model, "line {}", place + 1);
     }
@@ -853,6 +880,14 @@ fn the_cases_of_extracts_are_refused_as_they_are_to_be() {
     assert!(all(under_unfit(&UNFIT_ORDER), 13));
     assert!(all(under_printed(&EXTRACT_ORDER[..3]), 9));
     assert!(all(under_printed(&EXTRACT_ORDER[3..]), 17));
+}
+
+/// Of the stored policies the model itself takes the first, and no other.
+#[test]
+fn the_cases_of_stored_policies_take_one() {
+    let answers = stored_policies();
+    assert_eq!(answers.matches(": yes").count(), 1);
+    assert_eq!(answers.matches(": no").count(), 13);
 }
 
 /// Every clause's case breaks it, by the model's own range check, and every case inside is taken.

@@ -5,15 +5,15 @@ use mathlib.Core.Logic.{⊎-elim}
 use mathlib.Core.Bool.{Bool, true, cond}
 use mathlib.Core.List.{List}
 use Prim.Native.Nat.{ℕ}
-use Rattle.policy.specs.Taken.{Bytes}
-use Rattle.policy.proofs.Truth.{either}
-use Rattle.policy.proofs.Taken.{taken-iff}
-use Rattle.scheduler.specs.Range.{inRange}
-use Rattle.scheduler.specs.Call.{fresh}
-use Rattle.scheduler.specs.Run.{hasRoom}
-use Rattle.scheduler.specs.declared.trace.Ran.{Ran}
-use Rattle.scheduler.proofs.Laws.{scheduler-laws}
-use Rattle.scheduler.proofs.Run.{by-room, by-calls}
+use Rattle.file.specs.Taken.{Bytes}
+use Rattle.basics.proofs.Truth.{either}
+use Rattle.file.proofs.Taken.{taken-iff}
+use Rattle.state.specs.Range.{inRange}
+use Rattle.state.specs.Fresh.{fresh}
+use Rattle.rules.specs.Run.{hasRoom}
+use Rattle.state.specs.declared.Ran.{Ran}
+use Rattle.rules.proofs.Laws.{scheduler-laws}
+use Rattle.rules.proofs.Run.{by-room, by-calls}
 use Rattle.capi.specs.Laws.{TakenRuns}
 use Rattle.capi.proofs.Sides.{held, taken}
 

@@ -5,10 +5,10 @@ use mathlib.Core.Bool.{Bool, cond}
 use mathlib.Core.List.{List}
 use Prim.Native.Nat.{ℕ}
 use borrow.Author.Tests.{eq-eqb, ne-eqb}
-use Rattle.policy.specs.File.{readFile}
+use Rattle.file.specs.File.{readFile}
 use Rattle.policy.specs.declared.Policy.{Policy}
-use Rattle.scheduler.specs.Call.{fresh}
-use Rattle.scheduler.specs.Run.{run, logAfter}
+use Rattle.state.specs.Fresh.{fresh}
+use Rattle.rules.specs.Run.{run, logAfter}
 use Rattle.extract.specs.Extract.{extract, outAfter}
 use Rattle.capi.specs.Runs.{runStatus, runLog}
 use Rattle.capi.specs.Extracts.{fileExtractStatus, fileExtractCount, fileExtractOut}

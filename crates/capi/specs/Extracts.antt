@@ -3,7 +3,7 @@ use mathlib.Core.Bool.{cond}
 use mathlib.Core.List.{List}
 use Prim.Native.Nat.{ℕ}
 use lib.Dec.{eqb}
-use Rattle.policy.specs.File.{readFile}
+use Rattle.file.specs.File.{readFile}
 use Rattle.extract.specs.Extract.{extract, outAfter}
 
 -- the number that refuses the file, and else that of the extract

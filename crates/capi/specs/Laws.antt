@@ -3,8 +3,8 @@ use mathlib.Core.Path.{_≡_}
 use mathlib.Core.Bool.{cond}
 use mathlib.Core.List.{List}
 use Prim.Native.Nat.{ℕ}
-use Rattle.policy.specs.File.{readFile}
-use Rattle.scheduler.specs.Run.{hasRoom}
+use Rattle.file.specs.File.{readFile}
+use Rattle.rules.specs.Run.{hasRoom}
 use Rattle.capi.specs.Runs.{runStatus}
 
 -- a file that is taken leaves 0 and 15: its policy and its fresh state are in range, so that 13 never meets it

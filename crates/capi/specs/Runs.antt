@@ -3,9 +3,9 @@ use mathlib.Core.Bool.{cond}
 use mathlib.Core.List.{List}
 use Prim.Native.Nat.{ℕ}
 use lib.Dec.{eqb}
-use Rattle.policy.specs.File.{readFile}
-use Rattle.scheduler.specs.Call.{fresh}
-use Rattle.scheduler.specs.Run.{run, logAfter}
+use Rattle.file.specs.File.{readFile}
+use Rattle.state.specs.Fresh.{fresh}
+use Rattle.rules.specs.Run.{run, logAfter}
 
 -- the number that refuses the file, and else that of the run
 unfoldable pub runStatus : List ℕ → List ℕ → List ℕ → ℕ

@@ -11,12 +11,12 @@ pub extern "C" fn vigambul_run(file: &[u8], trace: &[u32], log: &mut [u32]) -> u
     ensures { λ r. ⌜ r ≡ runStatus (now (file .entry)) (now (trace .entry)) (now (log .entry)) ⌝ }
     ensures { λ r. ⌜ now (log .exit) ≡ runLog (now (file .entry)) (now (trace .entry)) (now (log .entry)) ⌝ }
 {
-    let reading = policy::file::read(file);
+    let reading = file::read(file);
     if reading.status != 0 {
         return reading.status;
     }
     let p = reading.policy;
-    let made = scheduler::fresh(p);
+    let made = state::fresh(p);
     let s = made.state;
     let ran = log::run(p, s, trace, log);
     ran.status
@@ -37,7 +37,7 @@ pub extern "C" fn vigambul_extract(
     ensures { λ r. ⌜ now (status .exit) ≡ fileExtractStatus (now (file .entry)) class (now (trace .entry)) (now (log .entry)) (now (out .entry)) ⌝ }
     ensures { λ r. ⌜ now (out .exit) ≡ fileExtractOut (now (file .entry)) class (now (trace .entry)) (now (log .entry)) (now (out .entry)) ⌝ }
 {
-    let reading = policy::file::read(file);
+    let reading = file::read(file);
     if reading.status != 0 {
         *status = reading.status;
         return 0;

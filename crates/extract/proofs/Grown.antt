@@ -12,16 +12,16 @@ use native.Mathlib.Omega.{arith}
 use borrow.Author.Tests.{ne-eqb}
 use lib.ListN.{length, getD, take, drop, length-append, take-append-drop}
 use lib.Seq.{length-take-le, take-suc, getD-drop, drop-drop, sets}
-use Rattle.policy.proofs.Truth.{either, not-both, on-true, on-false}
-use Rattle.scheduler.specs.Word.{isOffer, requestOf}
-use Rattle.scheduler.specs.declared.Request.{Request}
-use Rattle.scheduler.specs.Trace.{callOf}
-use Rattle.scheduler.specs.declared.trace.Call.{Call}
-use Rattle.scheduler.specs.declared.trace.Call.the-variants.{Tick, Offer, Malformed}
-use Rattle.scheduler.proofs.TraceLaws.{told-offer, told-malformed}
+use Rattle.basics.proofs.Truth.{either, not-both, on-true, on-false}
+use Rattle.requests.specs.Word.{isOffer, requestOf}
+use Rattle.requests.specs.declared.Request.{Request}
+use Rattle.requests.specs.Trace.{callOf}
+use Rattle.requests.specs.declared.Call.{Call}
+use Rattle.requests.specs.declared.Call.the-variants.{Tick, Offer, Malformed}
+use Rattle.requests.proofs.Trace.{told-offer, told-malformed}
 use Rattle.extract.specs.Seen.{callStays, stays, staying}
 use Rattle.extract.specs.Extract.{hideWord, hideTurn, lineSeen, lineSeenAt, extractOf}
-use Rattle.policy.proofs.Stores.{written-more}
+use Rattle.basics.proofs.Stores.{written-more}
 
 -- a number other than 0 is an offer or malformed
 no-tick : (w : ℕ) → ((w ≡ 0) → ⊥) → (callOf w ≡ Offer (requestOf w)) ⊎ (callOf w ≡ Malformed)

@@ -9,9 +9,9 @@ use Prim.Native.Nat.{ℕ, _*_, _<_}
 use native.Mathlib.Omega.{arith}
 use lib.ListN.{length, drop, length-append, length-drop, List·getD-append}
 use lib.Seq.{drop-at, drop-append-le}
-use Rattle.policy.proofs.Truth.{either}
-use Rattle.scheduler.specs.Word.{classOf, isOffer, requestOf}
-use Rattle.scheduler.specs.Trace.{callOf}
+use Rattle.basics.proofs.Truth.{either}
+use Rattle.requests.specs.Word.{classOf, isOffer, requestOf}
+use Rattle.requests.specs.Trace.{callOf}
 use Rattle.extract.specs.Seen.{callStays, stays, staying}
 use Rattle.extract.specs.Extract.{hideWord, ownerSeen, hideTurn, lineSeen, lineSeenAt, extractOf}
 use Rattle.extract.specs.Laws.{ExtractLaws, PrintedExtracts}

@@ -6,10 +6,10 @@ use lib.Dec.{eqb, leb}
 use lib.ListN.{length, getD, drop}
 use Rattle.policy.specs.Policy.{inRange, isClass}
 use Rattle.policy.specs.declared.Policy.{Policy}
-use Rattle.scheduler.specs.Word.{classOf}
-use Rattle.scheduler.specs.Trace.{callOf}
-use Rattle.scheduler.specs.declared.trace.Call.{Call}
-use Rattle.scheduler.specs.declared.trace.Call.the-variants.{Tick, Offer, Malformed}
+use Rattle.requests.specs.Word.{classOf}
+use Rattle.requests.specs.Trace.{callOf}
+use Rattle.requests.specs.declared.Call.{Call}
+use Rattle.requests.specs.declared.Call.the-variants.{Tick, Offer, Malformed}
 use Rattle.extract.specs.Seen.{seenBy, callStays}
 use Rattle.extract.specs.declared.Extracted.{Extracted}
 

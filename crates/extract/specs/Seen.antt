@@ -4,9 +4,9 @@ use mathlib.Core.List.{List, [], _∷_}
 use Prim.Native.Nat.{ℕ}
 use Rattle.policy.specs.Policy.{flows}
 use Rattle.policy.specs.declared.Policy.{Policy}
-use Rattle.scheduler.specs.Trace.{callOf}
-use Rattle.scheduler.specs.declared.trace.Call.{Call}
-use Rattle.scheduler.specs.declared.trace.Call.the-variants.{Tick, Offer, Malformed}
+use Rattle.requests.specs.Trace.{callOf}
+use Rattle.requests.specs.declared.Call.{Call}
+use Rattle.requests.specs.declared.Call.the-variants.{Tick, Offer, Malformed}
 
 -- the classes that "may flow to L"
 unfoldable pub seenBy : Policy → ℕ → ℕ → Bool

@@ -6,15 +6,15 @@ ghost use mathlib.Core.List.{[], _∷_, _++_};
 ghost use Prim.Native.Nat.{_+_, _*_, _≤_};
 ghost use lib.ListN.{length, drop};
 ghost use lib.Seq.{sets};
-ghost use Rattle.policy.specs.Below.{setOf};
-ghost use Rattle.policy.specs.Mask.{member};
-ghost use Rattle.scheduler.specs.Trace.{callOf};
+ghost use Rattle.basics.specs.Below.{setOf};
+ghost use Rattle.order.specs.Mask.{member};
+ghost use Rattle.requests.specs.Trace.{callOf};
 ghost use Rattle.extract.specs.Seen.{seenBy, stays, staying};
 ghost use Rattle.extract.specs.Extract.{hideWord, hideTurn, lineSeen, lineSeenAt, extractOf, extract, outAfter};
+use order::mask;
 use policy::Policy;
-use policy::mask;
-use scheduler::trace::Call;
-use scheduler::words;
+use requests::Call;
+use requests::words;
 
 // The answer of an extract: 0, or the number that refuses it, and how many numbers it wrote.
 pub struct Extracted {
@@ -41,7 +41,7 @@ fn seen_by(p: Policy, class: usize) -> u16
 fn stays(seen: u16, word: u32) -> bool
     ensures { λ r. ⌜ r ≡ stays (member seen) word ⌝ }
 {
-    let call = scheduler::trace::call_of(word);
+    let call = requests::call_of(word);
     match call {
         Call::Tick => true,
         Call::Offer(r) => mask::has(seen, r.class as usize),
@@ -167,7 +167,8 @@ fn write(seen: u16, trace: &[u32], log: &[u32], out: &mut [u32])
     }
 }
 
-// Writes what class `class` may see of the log of a trace to the start of `out`, and answers how many numbers that is.
+// Writes what class `class` may see of the log of a trace to the start of `out`, and answers how many numbers that is. Of a log that no run wrote, which document 01 leaves
+// open, each number is kept or hidden by its place and by the class that its bits name, whatever else it holds.
 pub fn extract(p: Policy, class: u32, trace: &[u32], log: &[u32], out: &mut [u32]) -> Extracted
     ensures { λ r. ⌜ r ≡ extract p class (now (trace .entry)) (now (log .entry)) (now (out .entry)) ⌝ }
     ensures { λ r. ⌜ now (out .exit) ≡ outAfter p class (now (trace .entry)) (now (log .entry)) (now (out .entry)) ⌝ }
@@ -178,7 +179,7 @@ pub fn extract(p: Policy, class: u32, trace: &[u32], log: &[u32], out: &mut [u32
             count: 0,
         };
     }
-    if !policy::order::is_class(p.classes, class as usize) {
+    if !order::is_class(p.classes, class as usize) {
         return Extracted {
             status: 9,
             count: 0,

@@ -4,7 +4,7 @@ use mathlib.Core.Path.{_≡_}
 use mathlib.Core.Bool.{Bool, true}
 use Prim.Native.Nat.{ℕ}
 use Rattle.policy.specs.declared.Policy.{Policy}
-use Rattle.scheduler.specs.declared.State.{State}
+use Rattle.state.specs.declared.State.{State}
 use Rattle.noninterference.proofs.Low.{TurnsAgree, QueuesAgree, PendingAgree, LastsAgree}
 
 pub record Alike (p : Policy) (low : ℕ → Bool) (s r : State) : Type 0 where

@@ -6,24 +6,24 @@ use mathlib.Core.Bool.{Bool, true, false}
 use mathlib.Core.List.{List, [], _∷_}
 use Prim.Native.Nat.{ℕ}
 use lib.Dec.{ltb}
-use Rattle.policy.specs.Laws.{SmallClasses}
+use Rattle.order.specs.Laws.{SmallClasses}
 use Rattle.policy.specs.Policy.{isClass}
 use Rattle.policy.specs.Policy.{inRange as policyInRange}
 use Rattle.policy.specs.declared.Policy.{Policy}
-use Rattle.policy.proofs.Truth.{either}
+use Rattle.basics.proofs.Truth.{either}
 use Rattle.policy.proofs.Laws.{policy-laws}
-use Rattle.scheduler.specs.Word.{commandNumber}
-use Rattle.scheduler.specs.Queue.{offerStatus, queuesAfter}
-use Rattle.scheduler.specs.Sizes.{lastCycle}
-use Rattle.scheduler.specs.Call.{offerOn, offer, silent, afterTick, tick}
-use Rattle.scheduler.specs.History.{Held}
-use Rattle.scheduler.specs.declared.Request.{Request}
-use Rattle.scheduler.specs.declared.State.{State}
-use Rattle.scheduler.specs.declared.Offered.{Offered}
-use Rattle.scheduler.specs.declared.Ticked.{Ticked}
-use Rattle.scheduler.specs.declared.trace.Call.the-variants.{Tick}
-use Rattle.scheduler.proofs.Call.{offer-is, tick-is, tick-late}
-use Rattle.scheduler.proofs.RangeLaws.{ranged}
+use Rattle.requests.specs.Word.{commandNumber}
+use Rattle.rules.specs.Queue.{offerStatus, queuesAfter}
+use Rattle.requests.specs.Sizes.{lastCycle}
+use Rattle.rules.specs.Call.{offerOn, offer, silent, afterTick, tick}
+use Rattle.rules.specs.History.{Held}
+use Rattle.requests.specs.declared.Request.{Request}
+use Rattle.state.specs.declared.State.{State}
+use Rattle.state.specs.declared.Offered.{Offered}
+use Rattle.state.specs.declared.Ticked.{Ticked}
+use Rattle.requests.specs.declared.Call.the-variants.{Tick}
+use Rattle.rules.proofs.Call.{offer-is, tick-is, tick-late}
+use Rattle.rules.proofs.Range.{ranged}
 use Rattle.extract.specs.Extract.{hideWord, hideTurn, lineSeen}
 use Rattle.noninterference.proofs.Low.{Downward, QueuesAgree}
 use Rattle.noninterference.proofs.Alike.{Alike}

@@ -11,24 +11,23 @@ use lib.ListN.{length, take, drop}
 use lib.Seq.{take-append-seam}
 use Rattle.policy.specs.Policy.{flows, isClass}
 use Rattle.policy.specs.Policy.{inRange as policyInRange}
-use Rattle.policy.specs.File.{readFile}
-use Rattle.policy.specs.Taken.{Bytes}
+use Rattle.file.specs.File.{readFile}
+use Rattle.file.specs.Taken.{Bytes}
 use Rattle.policy.specs.declared.Policy.{Policy}
-use Rattle.policy.proofs.Truth.{either, not-both, on-true, on-false}
+use Rattle.basics.proofs.Truth.{either, not-both, on-true, on-false}
 use Rattle.policy.proofs.Laws.{policy-laws}
-use Rattle.policy.proofs.Taken.{taken-iff}
-use Rattle.scheduler.specs.Range.{freshState, zeroState}
-use Rattle.scheduler.specs.Call.{fresh}
-use Rattle.scheduler.specs.Trace.{callOf}
-use Rattle.scheduler.specs.Calls.{stateAfter, logOf}
-use Rattle.scheduler.specs.declared.Made.{Made}
-use Rattle.scheduler.specs.declared.State.{State}
-use Rattle.scheduler.specs.declared.trace.Call.{Call}
-use Rattle.scheduler.specs.declared.trace.Call.the-variants.{Tick, Offer, Malformed}
-use Rattle.scheduler.proofs.Laws.{scheduler-laws}
-use Rattle.scheduler.proofs.Calls.{four-each}
-use Rattle.log.specs.PublicCalls.{PublicCall, traceMade}
-use Rattle.log.proofs.Laws.{run-laws}
+use Rattle.file.proofs.Taken.{taken-iff}
+use Rattle.state.specs.Fresh.{freshState, zeroState, fresh}
+use Rattle.requests.specs.Trace.{callOf}
+use Rattle.rules.specs.Calls.{stateAfter, logOf}
+use Rattle.state.specs.declared.Made.{Made}
+use Rattle.state.specs.declared.State.{State}
+use Rattle.requests.specs.declared.Call.{Call}
+use Rattle.requests.specs.declared.Call.the-variants.{Tick, Offer, Malformed}
+use Rattle.rules.proofs.Laws.{scheduler-laws}
+use Rattle.rules.proofs.Calls.{four-each}
+use Rattle.rules.specs.PublicCalls.{PublicCall, traceMade}
+use Rattle.rules.proofs.RunLaws.{run-laws}
 use Rattle.extract.specs.Seen.{seenBy, callStays, stays, staying}
 use Rattle.extract.specs.Extract.{keptFor, extractStatus, extract, outAfter}
 use Rattle.extract.specs.declared.Extracted.{Extracted}
@@ -184,7 +183,7 @@ noninterference p ok l class xs ys agree = same p (accepted-fits p ok) l class x
 pub calls-noninterference : CallsNoninterference
 calls-noninterference p ok l class cs ds agree = same-made p (accepted-fits p ok) l class cs ds agree
 
-pub files-accepted : (file : List ℕ) → Bytes file → FilesAccepted file
+pub files-accepted : FilesAccepted
 files-accepted file bytes none refused =
     let status : fresh (readFile file .policy) .status ≡ 0 = ap (λ (m : Made). m .status) (made-right (readFile file .policy) (taken-iff file bytes .in-range none)) in
     not-both (ap (λ (k : ℕ). eqb k 0) status) (ap (λ (k : ℕ). eqb k 0) refused)

@@ -10,11 +10,12 @@ use native.Mathlib.Omega.{arith}
 use lib.ListN.{length, getD, set}
 use Rattle.policy.specs.Laws.{TimingLaws}
 use Rattle.policy.specs.declared.Timing.{Timing}
-use Rattle.policy.proofs.Stores.{stored-at, stored-in-both}
-use Rattle.scheduler.specs.Word.{kindOf, bankOf}
-use Rattle.scheduler.specs.Wire.{gapMet, gapsMetBy, gapsMet, activateKind}
-use Rattle.scheduler.specs.declared.Flight.{Flight}
-use Rattle.scheduler.proofs.Wire.{gap-shift, kind-small}
+use Rattle.basics.proofs.Stores.{stored-at, stored-in-both}
+use Rattle.requests.specs.Word.{kindOf, bankOf}
+use Rattle.rules.specs.Wire.{gapMet, gapsMetBy, gapsMet}
+use Rattle.state.specs.Stored.{activateKind}
+use Rattle.state.specs.declared.Flight.{Flight}
+use Rattle.rules.proofs.Wire.{gap-shift, kind-small}
 use Rattle.extract.specs.Extract.{hideWord}
 use Rattle.noninterference.proofs.Low.{PendingAgree, LastAgree, LastsAgree}
 

@@ -7,16 +7,16 @@ use mathlib.Core.List.{List, [], _∷_, _++_}
 use Prim.Native.Nat.{ℕ}
 use Rattle.policy.specs.Policy.{inRange as policyInRange}
 use Rattle.policy.specs.declared.Policy.{Policy}
-use Rattle.policy.proofs.Truth.{either, not-both, on-true, on-false}
-use Rattle.scheduler.specs.Range.{freshState}
-use Rattle.scheduler.specs.History.{FromFresh, at-first}
-use Rattle.scheduler.specs.declared.State.{State}
-use Rattle.scheduler.proofs.History.{held}
-use Rattle.scheduler.specs.Trace.{callOf}
-use Rattle.scheduler.specs.Calls.{Answer, answer, answerTo, stateAfter, logOf}
-use Rattle.scheduler.specs.declared.trace.Call.{Call}
-use Rattle.scheduler.specs.declared.trace.Call.the-variants.{Tick, Offer, Malformed}
-use Rattle.log.proofs.Laws.{one-call as reached}
+use Rattle.basics.proofs.Truth.{either, not-both, on-true, on-false}
+use Rattle.state.specs.Fresh.{freshState}
+use Rattle.rules.specs.History.{FromFresh, at-first}
+use Rattle.state.specs.declared.State.{State}
+use Rattle.rules.proofs.History.{held}
+use Rattle.requests.specs.Trace.{callOf}
+use Rattle.rules.specs.Calls.{Answer, answer, answerTo, stateAfter, logOf}
+use Rattle.requests.specs.declared.Call.{Call}
+use Rattle.requests.specs.declared.Call.the-variants.{Tick, Offer, Malformed}
+use Rattle.rules.proofs.RunLaws.{one-call as reached}
 use Rattle.noninterference.proofs.Low.{Downward, OwnersAgree}
 use Rattle.noninterference.proofs.Alike.{Alike}
 use Rattle.extract.specs.Seen.{callStays, stays, staying}

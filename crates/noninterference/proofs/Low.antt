@@ -9,12 +9,12 @@ use Prim.Native.Nat.{ℕ, _<_}
 use lib.ListN.{getD}
 use Rattle.policy.specs.Policy.{flows}
 use Rattle.policy.specs.declared.Policy.{Policy}
-use Rattle.scheduler.specs.Sizes.{bankCount}
-use Rattle.scheduler.specs.Queue.{waiting}
-use Rattle.scheduler.specs.Wire.{gapMet}
-use Rattle.scheduler.specs.declared.Flight.{Flight}
-use Rattle.scheduler.specs.declared.Queues.{Queues}
-use Rattle.scheduler.specs.declared.Turns.{Turns}
+use Rattle.requests.specs.Sizes.{bankCount}
+use Rattle.state.specs.Stored.{waiting}
+use Rattle.rules.specs.Wire.{gapMet}
+use Rattle.state.specs.declared.Flight.{Flight}
+use Rattle.state.specs.declared.Queues.{Queues}
+use Rattle.state.specs.declared.Turns.{Turns}
 use Rattle.extract.specs.Extract.{hideWord}
 
 -- closed downward: what may flow to a low class is low

@@ -7,17 +7,18 @@ use mathlib.Core.List.{List, [], _∷_, _++_}
 use Prim.Native.Nat.{ℕ}
 use lib.Dec.{ltb, eqb}
 use lib.ListN.{length, getD}
-use Rattle.policy.specs.Laws.{SmallClasses}
-use Rattle.policy.proofs.Truth.{either, not-both, on-true, on-false}
-use Rattle.policy.proofs.Below.{length-listOf}
-use Rattle.policy.proofs.Stores.{same-or-other}
-use Rattle.scheduler.specs.Word.{wordOf, classFits, bankAndKindFit}
-use Rattle.scheduler.specs.Queue.{lengthOf, waitingAt, waiting, enqueue, offerStatus, queuesAfter}
-use Rattle.scheduler.specs.declared.Request.{Request}
-use Rattle.scheduler.specs.declared.Queues.{Queues}
-use Rattle.scheduler.proofs.Queue.{enqueue-end, enqueue-beside}
-use Rattle.scheduler.proofs.RangeLaws.{QueuesRange}
-use Rattle.scheduler.proofs.CallsKept.{taken, below-sixteen, room}
+use Rattle.order.specs.Laws.{SmallClasses}
+use Rattle.basics.proofs.Truth.{either, not-both, on-true, on-false}
+use Rattle.basics.proofs.Below.{length-listOf}
+use Rattle.basics.proofs.Stores.{same-or-other}
+use Rattle.requests.specs.Word.{wordOf, classFits, bankAndKindFit}
+use Rattle.state.specs.Stored.{lengthOf, waitingAt, waiting}
+use Rattle.rules.specs.Queue.{enqueue, offerStatus, queuesAfter}
+use Rattle.requests.specs.declared.Request.{Request}
+use Rattle.state.specs.declared.Queues.{Queues}
+use Rattle.rules.proofs.Queue.{enqueue-end, enqueue-beside}
+use Rattle.rules.proofs.Range.{QueuesRange}
+use Rattle.rules.proofs.CallsKept.{taken, below-sixteen, room}
 use Rattle.noninterference.proofs.Low.{QueuesAgree}
 
 -- how many wait, from who waits

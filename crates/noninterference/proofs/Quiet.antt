@@ -10,16 +10,17 @@ use native.Mathlib.Omega.{arith}
 use borrow.Author.Tests.{eqb-false}
 use lib.Dec.{eqb}
 use lib.ListN.{length, set}
-use Rattle.policy.proofs.Truth.{either, not-both, on-either}
-use Rattle.scheduler.specs.Word.{classOf, columnNumber, commandNumber}
-use Rattle.scheduler.specs.Wire.{dueAt, sentAt, activated}
-use Rattle.scheduler.specs.Step.{Bus, dueColumn, going, canActivate, drive}
-use Rattle.scheduler.specs.History.{Each}
-use Rattle.scheduler.proofs.Word.{word-back, column-class}
-use Rattle.scheduler.proofs.RangeLaws.{sound-offer, right-class, Fits, BusRange, goes-waits, going-right, going-sound, due-offer}
-use Rattle.scheduler.proofs.PendingWords.{inside}
-use Rattle.scheduler.proofs.Step.{outcome}
-use Rattle.scheduler.proofs.Queue.{dequeue-beside}
+use Rattle.basics.proofs.Truth.{either, not-both, on-either}
+use Rattle.requests.specs.Word.{classOf, columnNumber, commandNumber}
+use Rattle.state.specs.Stored.{dueAt, sentAt}
+use Rattle.rules.specs.Wire.{activated}
+use Rattle.rules.specs.Step.{Bus, dueColumn, going, canActivate, drive}
+use Rattle.rules.specs.History.{Each}
+use Rattle.requests.proofs.Word.{word-back, column-class}
+use Rattle.rules.proofs.Range.{sound-offer, right-class, Fits, BusRange, goes-waits, going-right, going-sound, due-offer}
+use Rattle.rules.proofs.PendingWords.{inside}
+use Rattle.rules.proofs.Step.{outcome}
+use Rattle.rules.proofs.Queue.{dequeue-beside}
 use Rattle.extract.specs.Extract.{hideWord}
 use Rattle.noninterference.proofs.Low.{QueuesAgree, PendingAgree}
 use Rattle.noninterference.proofs.Flights.{stored-unseen}

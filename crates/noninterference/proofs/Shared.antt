@@ -10,20 +10,21 @@ use native.Mathlib.Omega.{arith}
 use borrow.Author.Tests.{ltb-true}
 use lib.Dec.{ltb, eqb}
 use lib.ListN.{getD, set}
-use Rattle.policy.proofs.Truth.{either, and-fails-left, and-fails-right}
-use Rattle.policy.proofs.Stores.{same-or-other, stored-in-both}
-use Rattle.scheduler.specs.Word.{kindOf, bankOf, requestOf, soundWord}
-use Rattle.scheduler.specs.Queue.{lengthOf, waiting, dequeue}
-use Rattle.scheduler.specs.Wire.{sentAt, activateAt, gapsMet, offsetAllows, activated}
-use Rattle.scheduler.specs.Step.{Driven, Bus, dueColumn, goesAt, going, canActivate, columnSent, requestSent, nothingSent, drive}
-use Rattle.scheduler.specs.declared.Wires.the-variants.{Activate, Column}
-use Rattle.scheduler.specs.declared.Queues.{Queues}
-use Rattle.scheduler.specs.declared.Flight.{Flight}
-use Rattle.scheduler.proofs.RangeLaws.{sound-bank, sound-kind, BusRange, goes-waits, going-sound}
-use Rattle.scheduler.proofs.Step.{drive-column, drive-nothing, drive-activate}
-use Rattle.scheduler.proofs.Queue.{dequeue-first, dequeue-beside}
-use Rattle.scheduler.proofs.PendingWords.{inside}
-use Rattle.scheduler.proofs.Wire.{gap-shift}
+use Rattle.basics.proofs.Truth.{either, and-fails-left, and-fails-right}
+use Rattle.basics.proofs.Stores.{same-or-other, stored-in-both}
+use Rattle.requests.specs.Word.{kindOf, bankOf, requestOf, soundWord}
+use Rattle.state.specs.Stored.{lengthOf, waiting, activateAt, sentAt}
+use Rattle.rules.specs.Queue.{dequeue}
+use Rattle.rules.specs.Wire.{gapsMet, offsetAllows, activated}
+use Rattle.rules.specs.Step.{Driven, Bus, dueColumn, goesAt, going, canActivate, columnSent, requestSent, nothingSent, drive}
+use Rattle.requests.specs.declared.Wires.the-variants.{Activate, Column}
+use Rattle.state.specs.declared.Queues.{Queues}
+use Rattle.state.specs.declared.Flight.{Flight}
+use Rattle.rules.proofs.Range.{sound-bank, sound-kind, BusRange, goes-waits, going-sound}
+use Rattle.rules.proofs.Step.{drive-column, drive-nothing, drive-activate}
+use Rattle.rules.proofs.Queue.{dequeue-first, dequeue-beside}
+use Rattle.rules.proofs.PendingWords.{inside}
+use Rattle.rules.proofs.Wire.{gap-shift}
 use Rattle.extract.specs.Extract.{hideWord}
 use Rattle.noninterference.proofs.Low.{QueuesAgree, PendingAgree, LastAgree, LastsAgree}
 use Rattle.noninterference.proofs.Offers.{same-length}

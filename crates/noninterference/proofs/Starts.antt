@@ -8,18 +8,18 @@ use native.Mathlib.Omega.{arith}
 use Rattle.policy.specs.Policy.{flows}
 use Rattle.policy.specs.Policy.{inRange as policyInRange}
 use Rattle.policy.specs.declared.Policy.{Policy}
-use Rattle.policy.proofs.Truth.{either, not-both, false-unless, on-true, on-false}
+use Rattle.basics.proofs.Truth.{either, not-both, false-unless, on-true, on-false}
 use Rattle.policy.proofs.Laws.{policy-laws}
-use Rattle.scheduler.specs.Queue.{lengthOf}
-use Rattle.scheduler.specs.Wire.{gapMet}
-use Rattle.scheduler.specs.Step.{turnStarts, turnNumber, startTurn, turnsAt, TurnStart}
-use Rattle.scheduler.specs.History.{turnBefore, untilTurn, Activates, Held}
-use Rattle.scheduler.specs.declared.Turns.{Turns}
-use Rattle.scheduler.specs.declared.Flight.{Flight}
-use Rattle.scheduler.specs.declared.State.{State}
-use Rattle.scheduler.proofs.LookaheadLaws.{elision}
-use Rattle.scheduler.proofs.RangeLaws.{ranged}
-use Rattle.scheduler.proofs.Calendar.{until-start, number-start}
+use Rattle.state.specs.Stored.{lengthOf}
+use Rattle.rules.specs.Wire.{gapMet}
+use Rattle.rules.specs.Step.{turnStarts, turnNumber, startTurn, turnsAt, TurnStart}
+use Rattle.rules.specs.History.{turnBefore, untilTurn, Activates, Held}
+use Rattle.state.specs.declared.Turns.{Turns}
+use Rattle.state.specs.declared.Flight.{Flight}
+use Rattle.state.specs.declared.State.{State}
+use Rattle.rules.proofs.Lookahead.{elision}
+use Rattle.rules.proofs.Range.{ranged}
+use Rattle.rules.proofs.Calendar.{until-start, number-start}
 use Rattle.noninterference.proofs.Low.{Downward, EntriesAgree, TurnsAgree, LastsAgree}
 use Rattle.noninterference.proofs.Alike.{Alike}
 use Rattle.noninterference.proofs.Walks.{start-agrees}

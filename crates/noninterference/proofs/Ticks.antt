@@ -11,21 +11,22 @@ use lib.Dec.{eqb, lit<}
 use lib.ListN.{length, length-set}
 use Rattle.policy.specs.Policy.{inRange as policyInRange}
 use Rattle.policy.specs.declared.Policy.{Policy}
-use Rattle.policy.proofs.Truth.{not-both, and-fails-right}
+use Rattle.basics.proofs.Truth.{not-both, and-fails-right}
 use Rattle.policy.proofs.Laws.{policy-laws}
-use Rattle.scheduler.specs.Word.{classOf, commandNumber}
-use Rattle.scheduler.specs.Wire.{dueAt, sentAt, activated}
-use Rattle.scheduler.specs.Step.{turnStarts, turnWord, TurnStart, turnsAt, Driven, Bus, going, drive, answered}
-use Rattle.scheduler.specs.Call.{afterTick}
-use Rattle.scheduler.specs.History.{Held}
-use Rattle.scheduler.specs.declared.Wires.{Wires}
-use Rattle.scheduler.specs.declared.Turns.{Turns}
-use Rattle.scheduler.specs.declared.State.{State}
-use Rattle.scheduler.proofs.Step.{outcome, turn-shown}
-use Rattle.scheduler.proofs.TurnsKept.{turns-kept}
-use Rattle.scheduler.proofs.PendingWords.{inside}
-use Rattle.scheduler.proofs.RangeLaws.{Ranged, ranged, BusRange, bus-range}
-use Rattle.scheduler.proofs.History.{Midway, midway}
+use Rattle.requests.specs.Word.{classOf, commandNumber}
+use Rattle.state.specs.Stored.{dueAt, sentAt}
+use Rattle.rules.specs.Wire.{activated}
+use Rattle.rules.specs.Step.{turnStarts, turnWord, TurnStart, turnsAt, Driven, Bus, going, drive, answered}
+use Rattle.rules.specs.Call.{afterTick}
+use Rattle.rules.specs.History.{Held}
+use Rattle.requests.specs.declared.Wires.{Wires}
+use Rattle.state.specs.declared.Turns.{Turns}
+use Rattle.state.specs.declared.State.{State}
+use Rattle.rules.proofs.Step.{outcome, turn-shown}
+use Rattle.rules.proofs.TurnsKept.{turns-kept}
+use Rattle.rules.proofs.PendingWords.{inside}
+use Rattle.rules.proofs.Range.{Ranged, ranged, BusRange, bus-range}
+use Rattle.rules.proofs.History.{Midway, midway}
 use Rattle.extract.specs.Extract.{hideWord, ownerSeen, hideTurn}
 use Rattle.noninterference.proofs.Low.{Downward, QueuesAgree, PendingAgree, LastsAgree}
 use Rattle.noninterference.proofs.Alike.{Alike}

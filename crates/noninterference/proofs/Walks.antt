@@ -8,20 +8,20 @@ use Prim.Native.Nat.{ℕ, suc, _+_, _-_, _%_, _<_}
 use lib.Dec.{eqb}
 use lib.ListN.{length, getD, set, length-set}
 use lib.Seq.{getD-set-other}
-use Rattle.policy.specs.Mask.{nth}
-use Rattle.policy.specs.Order.{flowsIn}
+use Rattle.order.specs.Mask.{nth}
+use Rattle.order.specs.Order.{flowsIn}
 use Rattle.policy.specs.Policy.{flows, inRange}
 use Rattle.policy.specs.declared.Policy.{Policy}
-use Rattle.policy.proofs.Truth.{either, false-unless, not-both, and-left, and-fails-left}
-use Rattle.policy.proofs.Stores.{stored-in-both}
-use Rattle.scheduler.specs.Traversal.{firstClass, Candidates, candidates, moved, movedPointer, reachedAt, named, takesBy, takes, Reached, endsAt, tryClass, charge}
-use Rattle.scheduler.specs.Lookahead.{Ahead, lookingAhead, goesOn, reaches, aheadOf, nextLeft, elides}
-use Rattle.scheduler.specs.Step.{leftAtStart, ownedBy, startTurn}
-use Rattle.scheduler.specs.declared.Turns.{Turns}
-use Rattle.scheduler.proofs.TraversalLaws.{passes-on, try-takes, try-passes, onward, traverse, traversed, passes-small, owner-small, climbs, first-small, to-cover}
-use Rattle.scheduler.proofs.LookaheadLaws.{reach-here, reach-fails, reach-on, look}
-use Rattle.scheduler.proofs.RangeLaws.{TurnsRange}
-use Rattle.scheduler.proofs.TurnsKept.{start-within}
+use Rattle.basics.proofs.Truth.{either, false-unless, not-both, and-left, and-fails-left}
+use Rattle.basics.proofs.Stores.{stored-in-both}
+use Rattle.rules.specs.Traversal.{firstClass, Candidates, candidates, moved, movedPointer, reachedAt, named, takesBy, takes, Reached, endsAt, tryClass, charge}
+use Rattle.rules.specs.Lookahead.{Ahead, lookingAhead, goesOn, reaches, aheadOf, nextLeft, elides}
+use Rattle.rules.specs.Step.{leftAtStart, ownedBy, startTurn}
+use Rattle.state.specs.declared.Turns.{Turns}
+use Rattle.rules.proofs.Traversal.{passes-on, try-takes, try-passes, onward, traverse, traversed, passes-small, owner-small, climbs, first-small, to-cover}
+use Rattle.rules.proofs.Lookahead.{reach-here, reach-fails, reach-on, look}
+use Rattle.rules.proofs.Range.{TurnsRange}
+use Rattle.rules.proofs.TurnsKept.{start-within}
 use Rattle.noninterference.proofs.Low.{Downward, EntriesAgree, OwnersAgree, TurnsAgree}
 
 -- ---- lists

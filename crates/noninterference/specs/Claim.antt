@@ -1,22 +1,23 @@
 -- Demand 3: noninterference. It is one claim about two lists of trace numbers as wholes, for every accepted policy and every class L, and then of two lists of calls however
--- a program makes them. It is put together from the definitions that the contracts of demand 2 cite: `fresh`, `callOf`, `logOf` and `stateAfter` (scheduler: Call, Trace,
--- Calls), `extract` (extract: Extract), and `tick`, `offer`, `run` and `logAfter` (scheduler: Call and Run, by log: PublicCalls).
+-- a program makes them. It is put together from the definitions that the contracts of demand 2 cite: `fresh` (state: Fresh), `callOf` (requests: Trace), `logOf` and
+-- `stateAfter` (rules: Calls), `extract` (extract: Extract), and `tick`, `offer`, `run` and `logAfter` (rules: Call and Run, by PublicCalls).
 use mathlib.Core.Path.{_≡_}
 use mathlib.Core.Bool.{Bool, true, false, not}
 use mathlib.Core.List.{List, [], _∷_}
 use Prim.Native.Nat.{ℕ, _≤_}
 use lib.ListN.{length, getD, take}
 use Rattle.policy.specs.Policy.{isClass, flows}
-use Rattle.policy.specs.File.{readFile}
+use Rattle.file.specs.File.{readFile}
+use Rattle.file.specs.Taken.{Bytes}
 use Rattle.policy.specs.declared.Policy.{Policy}
-use Rattle.scheduler.specs.Queue.{waiting}
-use Rattle.scheduler.specs.Call.{fresh}
-use Rattle.scheduler.specs.Trace.{callOf}
-use Rattle.scheduler.specs.Calls.{stateAfter, logOf}
-use Rattle.scheduler.specs.declared.State.{State}
-use Rattle.scheduler.specs.declared.trace.Call.{Call}
-use Rattle.scheduler.specs.declared.trace.Call.the-variants.{Tick, Offer, Malformed}
-use Rattle.log.specs.PublicCalls.{PublicCall, traceMade, stateMade, logMade}
+use Rattle.state.specs.Stored.{waiting}
+use Rattle.state.specs.Fresh.{fresh}
+use Rattle.requests.specs.Trace.{callOf}
+use Rattle.rules.specs.Calls.{stateAfter, logOf}
+use Rattle.state.specs.declared.State.{State}
+use Rattle.requests.specs.declared.Call.{Call}
+use Rattle.requests.specs.declared.Call.the-variants.{Tick, Offer, Malformed}
+use Rattle.rules.specs.PublicCalls.{PublicCall, traceMade, stateMade, logMade}
 use Rattle.extract.specs.Extract.{keptFor, extract, outAfter}
 
 -- "A policy is accepted if a fresh state asked of it does not get 13"
@@ -98,6 +99,6 @@ CallsNoninterference =
 
 -- ---- beside it
 
--- "each whose file gets none of 1 to 8 is" accepted
-abbrev pub FilesAccepted : List ℕ → Type 0
-FilesAccepted file = readFile file .status ≡ 0 → Accepted (readFile file .policy)
+-- "each whose file gets none of 1 to 8 is" accepted. A file is a list of bytes.
+abbrev pub FilesAccepted : Type 0
+FilesAccepted = (file : List ℕ) → Bytes file → readFile file .status ≡ 0 → Accepted (readFile file .policy)

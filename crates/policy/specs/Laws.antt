@@ -5,35 +5,12 @@ use mathlib.Core.Logic.{_↔_}
 use mathlib.Core.Bool.{Bool, true}
 use Prim.Native.Nat.{ℕ, _+_, _^_, _≤_, _<_}
 use lib.ListN.{length, getD}
-use Rattle.policy.specs.Mask.{member}
-use Rattle.policy.specs.Order.{isClassIn}
+use Rattle.order.specs.Mask.{member}
+use Rattle.order.specs.Laws.{Reflexive, Antisymmetric, Transitive, Least}
 use Rattle.policy.specs.Turns.{minimumsAbove}
 use Rattle.policy.specs.Policy.{isClass, flows, strictly, least, above, coversOf, coverCount, cover, cap}
 use Rattle.policy.specs.declared.Timing.{Timing}
 use Rattle.policy.specs.declared.Policy.{Policy}
-
--- ---- what an order is, of any relation among the numbers that pass a test
-
-abbrev pub Reflexive : (ℕ → Bool) → (ℕ → ℕ → Bool) → Type 0
-Reflexive among R = (i : ℕ) → among i ≡ true → R i i ≡ true
-
-abbrev pub Antisymmetric : (ℕ → Bool) → (ℕ → ℕ → Bool) → Type 0
-Antisymmetric among R = (i j : ℕ) → among i ≡ true → among j ≡ true → R i j ≡ true → R j i ≡ true → i ≡ j
-
-abbrev pub Transitive : (ℕ → Bool) → (ℕ → ℕ → Bool) → Type 0
-Transitive among R = (i j k : ℕ) → among i ≡ true → among j ≡ true → among k ≡ true → R i j ≡ true → R j k ≡ true → R i k ≡ true
-
--- i may flow to every one of them
-abbrev pub Least : (ℕ → Bool) → (ℕ → ℕ → Bool) → ℕ → Type 0
-Least among R i = (j : ℕ) → among j ≡ true → R i j ≡ true
-
--- ---- the classes
-
--- what is stored of the classes makes each of them one of the sixteen numbers
-abbrev pub SmallClasses : ℕ → Type 0
-SmallClasses n = (i : ℕ) → isClassIn n i ≡ true → i < 16
-
--- ---- the laws
 
 -- "The order must be reflexive, antisymmetric and transitive"; only classes flow, and only to classes
 pub record OrderLaws (p : Policy) : Type 0 where

@@ -4,9 +4,9 @@ use mathlib.Core.List.{List, [], _∷_}
 use Prim.Native.Nat.{ℕ, suc}
 use lib.Dec.{ltb, eqb}
 use lib.ListN.{length, getD}
-use Rattle.policy.specs.Below.{every}
-use Rattle.policy.specs.Mask.{size, nth}
-use Rattle.policy.specs.Order.{isClassIn, flowsIn, strictlyIn, rowsFit, antisymmetric, transitive, hasLeast, leastIn, coverSet, aboveIn}
+use Rattle.basics.specs.Below.{every}
+use Rattle.order.specs.Mask.{size, nth}
+use Rattle.order.specs.Order.{isClassIn, flowsIn, strictlyIn, rowsFit, antisymmetric, transitive, hasLeast, leastIn, coverSet, aboveIn}
 use Rattle.policy.specs.Turns.{turnsSound, capIn}
 use Rattle.policy.specs.Timing.{timingSound, within}
 use Rattle.policy.specs.declared.Policy.{Policy}

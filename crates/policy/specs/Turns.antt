@@ -5,8 +5,8 @@ use mathlib.Core.List.{List}
 use Prim.Native.Nat.{ℕ, _-_}
 use lib.Dec.{leb}
 use lib.ListN.{getD}
-use Rattle.policy.specs.Below.{sum}
-use Rattle.policy.specs.Order.{isClassIn, strictlyIn}
+use Rattle.basics.specs.Below.{sum}
+use Rattle.order.specs.Order.{isClassIn, strictlyIn}
 
 -- the sum of all minimums
 unfoldable pub minimumsSum : List ℕ → ℕ

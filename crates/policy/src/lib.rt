@@ -3,11 +3,8 @@
 ghost use mathlib.Core.Path.{_≡_};
 ghost use Rattle.policy.specs.Policy.{flows, strictly, least, above, coversOf, coverCount, cover, cap, refusal, storedFits, allStoredFits, inRange};
 
-pub mod file;
-pub mod mask;
-pub mod order;
 mod timings;
-mod turns;
+pub mod turns;
 
 // The ten numbers of the timing body. A kind is 0 for a read and 1 for a write.
 pub struct Timing {
@@ -38,12 +35,6 @@ pub struct Policy {
     pub covers: [u16; 16],
     // How many turns of an epoch each class may take.
     pub caps: [u32; 16],
-}
-
-// The answer of reading a policy file: 0 and the policy, or the number that refuses the file and the policy of no classes, all zeros.
-pub struct Reading {
-    pub status: u32,
-    pub policy: Policy,
 }
 
 // Whether class i may flow to class j. Of a number that is no class, which document 01 leaves open: in a policy in range it flows nowhere, and nothing flows to it.
@@ -90,14 +81,14 @@ pub fn covers_of(p: Policy, class: usize) -> u16
 pub fn cover_count(p: Policy, class: usize) -> usize
     ensures { λ r. ⌜ r ≡ coverCount p class ⌝ }
 {
-    mask::size(covers_of(p, class))
+    order::mask::size(covers_of(p, class))
 }
 
 // The cover with the given number, from 1 by rising class number. Where there is none, which document 01 leaves open, 16: no class.
 pub fn cover(p: Policy, class: usize, number: usize) -> usize
     ensures { λ r. ⌜ r ≡ cover p class number ⌝ }
 {
-    mask::nth(covers_of(p, class), number)
+    order::mask::nth(covers_of(p, class), number)
 }
 
 // The stored cap of a class. For a number that is no class, which document 01 leaves open, 0 in a policy in range.
@@ -108,7 +99,8 @@ pub fn cap(p: Policy, class: usize) -> u32
     turns::number_of(caps, class)
 }
 
-// The number of 3 to 8 in document 01's table that refuses the policy, the first in that order, and 0 where none does.
+// The number of 3 to 8 in document 01's table that refuses the policy, the first in that order, and 0 where none does. Of a policy of no classes or of more than sixteen,
+// which 2 refuses and of which 3 to 8 say nothing, it is what the tests give: the policy of no classes, all zeros, gets 6, as it has no least class.
 pub fn refusal(p: Policy) -> u32
     ensures { λ r. ⌜ r ≡ refusal p ⌝ }
 {

@@ -3,7 +3,6 @@
 ghost use mathlib.Core.Path.{_≡_};
 ghost use lib.ListN.{getD};
 ghost use Rattle.policy.specs.Turns.{minimumsSum, turnsSound, minimumsAbove, capIn};
-use super::order;
 
 // What stands at a class in an array of numbers by class. What a number above 15 has is open in document 01: 0 here.
 pub(crate) fn number_of(numbers: [u32; 16], class: usize) -> u32
@@ -47,13 +46,7 @@ fn minimums_above(rows: [u16; 16], minimums: [u32; 16], class: usize) -> u64
 }
 
 // A class's cap: the epoch's length less the minimums of all classes strictly above it, and 0 where they are more. What a number that is no class has is open in document 01: 0 here.
-pub(crate) fn cap_in(
-    classes: usize,
-    rows: [u16; 16],
-    epoch: u32,
-    minimums: [u32; 16],
-    class: usize,
-) -> u32
+pub fn cap_in(classes: usize, rows: [u16; 16], epoch: u32, minimums: [u32; 16], class: usize) -> u32
     ensures { λ r. ⌜ r ≡ capIn classes rows epoch minimums class ⌝ }
 {
     if !order::is_class(classes, class) {

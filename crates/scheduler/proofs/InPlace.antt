@@ -4,11 +4,11 @@ use mathlib.Core.Path.{sym, subst}
 use mathlib.Core.List.{List}
 use Prim.Native.Nat.{ℕ}
 use Rattle.policy.specs.declared.Policy.{Policy}
-use Rattle.scheduler.specs.Climb.{Climbs}
+use Rattle.rules.specs.Climb.{Climbs}
 use Rattle.scheduler.specs.InPlace.{Lent, stateOf}
 use Rattle.scheduler.specs.declared.ticking.Moment.{Moment}
-use Rattle.scheduler.specs.declared.State.{State}
-use Rattle.scheduler.proofs.TraversalLaws.{climbs}
+use Rattle.state.specs.declared.State.{State}
+use Rattle.rules.proofs.Traversal.{climbs}
 
 pub climbs-lent : (p : Policy) (bottom : ℕ) (rows covers caps : List ℕ) → Lent p bottom rows covers caps → Climbs rows covers
 climbs-lent p bottom rows covers caps lent =

@@ -8,16 +8,17 @@ use Rattle.policy.specs.Policy.{least}
 use Rattle.policy.specs.Policy.{inRange as policyInRange}
 use Rattle.policy.specs.declared.Timing.{Timing}
 use Rattle.policy.specs.declared.Policy.{Policy}
-use Rattle.scheduler.specs.Step.{TurnStart, Bus}
-use Rattle.scheduler.specs.Range.{inRange}
-use Rattle.scheduler.specs.Calls.{Answer}
+use Rattle.rules.specs.Step.{TurnStart, Bus}
+use Rattle.state.specs.Stored.{queuesOf, turnsOf, flightOf}
+use Rattle.state.specs.Range.{inRange}
+use Rattle.rules.specs.Calls.{Answer}
 use Rattle.scheduler.specs.declared.turning.Owned.{Owned}
 use Rattle.scheduler.specs.declared.ticking.Moment.{Moment}
-use Rattle.scheduler.specs.declared.ticking.Ticking.{Ticking}
-use Rattle.scheduler.specs.declared.Queues.{Queues}
-use Rattle.scheduler.specs.declared.Turns.{Turns}
-use Rattle.scheduler.specs.declared.Flight.{Flight}
-use Rattle.scheduler.specs.declared.State.{State}
+use Rattle.scheduler.specs.declared.ticking.Called.{Called}
+use Rattle.state.specs.declared.Queues.{Queues}
+use Rattle.state.specs.declared.Turns.{Turns}
+use Rattle.state.specs.declared.Flight.{Flight}
+use Rattle.state.specs.declared.State.{State}
 
 -- what is lent beside a policy in range is the policy's: its least class, its rows, covers and caps
 pub record Lent (p : Policy) (bottom : ℕ) (rows covers caps : List ℕ) : Type 0 where
@@ -57,18 +58,8 @@ nextMoment timing m last =
       last = last;
     }
 
--- ---- the parts of a state, of the numbers and arrays that are worked on
+-- ---- of the numbers and arrays that are worked on: the state
 
-abbrev pub queuesOf : List ℕ → List ℕ → List ℕ → Queues
-queuesOf slots heads lengths = record { slots = slots; heads = heads; lengths = lengths }
-
-abbrev pub turnsOf : ℕ → Bool → List ℕ → List ℕ → Turns
-turnsOf owner elided left pointers = record { owner = owner; elided = elided; left = left; pointers = pointers }
-
-abbrev pub flightOf : List ℕ → List ℕ → List ℕ → ℕ → Flight
-flightOf columns responses banks last = record { columns = columns; responses = responses; banks = banks; last = last }
-
--- and the state
 abbrev pub stateOf : Moment → List ℕ → List ℕ → List ℕ → List ℕ → List ℕ → List ℕ → List ℕ → List ℕ → State
 stateOf m slots heads lengths left pointers columns responses banks =
     record {
@@ -88,9 +79,13 @@ busOf timing m queues flight =
 abbrev pub startOf : Owned → List ℕ → List ℕ → TurnStart
 startOf o left pointers = record { turns = turnsOf (o .owner) (o .elided) left pointers; shown = o .shown }
 
--- what a tick in place left, of its numbers and the state, as an answer
-abbrev pub answerOf : Ticking → State → Answer
-answerOf r s = record { state = s; status = 0; command = r .command; response = r .response; turn = r .turn }
+-- what a call in place left, of its numbers and the state, as an answer
+abbrev pub answerOf : Called → State → Answer
+answerOf r s = record { state = s; status = r .status; command = r .command; response = r .response; turn = r .turn }
+
+-- of a call that shows nothing: its status, and the numbers as they were
+abbrev pub answeredWith : Moment → ℕ → Called
+answeredWith m status = record { moment = m; status = status; command = 0; response = 0; turn = 0 }
 
 -- ---- what a call in place rests on, and what stays from one to the next
 
@@ -105,13 +100,3 @@ pub record Continues (p : Policy) (m r : Moment) : Type 0 where
   pub in-step : InStep p r
   pub same-bottom : r .bottom ≡ m .bottom
   pub same-count : r .classes ≡ m .classes
-
--- ---- the log
-
--- four log numbers, written from a place on
-abbrev pub lineWritten : List ℕ → ℕ → ℕ → ℕ → ℕ → ℕ → List ℕ
-lineWritten log at status command response turn = set (set (set (set log at status) (at + 1) command) (at + 2) response) (at + 3) turn
-
--- those of a call's answer
-abbrev pub written : List ℕ → ℕ → Answer → List ℕ
-written log at a = lineWritten log at (a .status) (a .command) (a .response) (a .turn)

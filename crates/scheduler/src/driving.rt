@@ -4,66 +4,27 @@ ghost use mathlib.Core.Path.{_≡_};
 ghost use Prim.Native.Nat.{_%_, _≤_, _<_};
 ghost use lib.ListN.{getD};
 ghost use Rattle.policy.specs.Laws.{TimingLaws};
-ghost use Rattle.scheduler.specs.Sizes.{lastCycle, ringPlaces, bankCount};
-ghost use Rattle.scheduler.specs.Word.{kindOf, bankOf, commandNumber};
-ghost use Rattle.scheduler.specs.Queue.{place};
-ghost use Rattle.scheduler.specs.Wire.{dueAt, sentAt, activateAt, activateNext, activateKind, gapMet, offsetAllows, gapsMetBy, activated};
-ghost use Rattle.scheduler.specs.Step.{Bus, drive};
-ghost use Rattle.scheduler.specs.Ready.{Ready};
-ghost use Rattle.scheduler.specs.InPlace.{queuesOf, flightOf, busOf};
-use super::Banks;
-use super::PENDING_PLACES;
-use super::Pending;
-use super::Slots;
+ghost use Rattle.requests.specs.Sizes.{lastCycle, ringPlaces, bankCount};
+ghost use Rattle.requests.specs.Word.{kindOf, bankOf, commandNumber};
+ghost use Rattle.state.specs.Stored.{place, queuesOf, flightOf};
+ghost use Rattle.rules.specs.Wire.{offsetAllows, activated};
+ghost use Rattle.rules.specs.Step.{Bus, drive};
+ghost use Rattle.rules.specs.Ready.{Ready};
+ghost use Rattle.scheduler.specs.InPlace.{busOf};
 use super::queueing;
 use super::ticking::Moment;
-use super::words;
 use policy::Timing;
+use requests::words;
+use state::Banks;
+use state::PENDING_PLACES;
+use state::Pending;
+use state::Slots;
+use state::stored;
 
 // What the wires carried, as its number in the log, and the last activate of all after it.
 pub struct Drove {
     pub command: u32,
     pub last: u32,
-}
-
-// How a last activate is stored: twice one more than its cycle, plus its kind.
-fn activate_at(cycle: u32, kind: u32) -> u32
-    requires { ⌜ (cycle < lastCycle) × (kind < 2) ⌝ }
-    ensures { λ r. ⌜ r ≡ activateAt cycle kind ⌝ }
-{
-    2 * (cycle + 1) + kind
-}
-
-// One more than the cycle of a stored last activate.
-pub(crate) fn activate_next(last: u32) -> u32
-    ensures { λ r. ⌜ r ≡ activateNext last ⌝ }
-{
-    last / 2
-}
-
-// The kind of a stored last activate.
-fn activate_kind(last: u32) -> u32
-    ensures { λ r. ⌜ r ≡ activateKind last ⌝ }
-{
-    last % 2
-}
-
-// A gap is met from so many cycles after the last activate on, and where there was none.
-fn gap_met(last: u32, gap: u32, cycle: u32) -> bool
-    requires { ⌜ (gap ≤ lastCycle) × (cycle < lastCycle) ⌝ }
-    ensures { λ r. ⌜ r ≡ gapMet last gap cycle ⌝ }
-{
-    (last == 0) | (activate_next(last) + gap <= cycle + 1)
-}
-
-// All gaps are met: from the last activate of all, by the two kinds, and from that of the bank, by its kind.
-fn gaps_met(timing: Timing, last: u32, of_bank: u32, kind: u32, cycle: u32) -> bool
-    requires { ⌜ TimingLaws timing × (kind < 2) × (cycle < lastCycle) ⌝ }
-    ensures { λ r. ⌜ r ≡ gapsMetBy timing last «of_bank» kind cycle ⌝ }
-{
-    let after = (2 * activate_kind(last) + kind) as usize;
-    let same = activate_kind(of_bank) as usize;
-    gap_met(last, timing.gaps[after], cycle) & gap_met(of_bank, timing.bank[same], cycle)
 }
 
 // The owner may activate before the dead time, or at all offsets if it is elided.
@@ -90,7 +51,7 @@ fn activate(
     let column = ((cycle + timing.column) % PENDING_PLACES) as usize;
     let response = ((cycle + timing.response) % PENDING_PLACES) as usize;
     let bank = words::bank_of(word) as usize;
-    let last = activate_at(cycle, words::kind_of(word));
+    let last = stored::activate_at(cycle, words::kind_of(word));
     columns[column] = word;
     responses[response] = word;
     banks[bank] = last;
@@ -102,7 +63,7 @@ fn head_of(slots: &Slots, heads: &[usize; 16], class: usize) -> u32
     requires { ⌜ (class < 16) × (getD (now heads) class 0 < ringPlaces) ⌝ }
     ensures { λ r. ⌜ r ≡ getD (now (slots .entry)) (place class (getD (now (heads .entry)) class 0) 0) 0 ⌝ }
 {
-    let place = queueing::place(class, heads[class], 0);
+    let place = stored::place(class, heads[class], 0);
     slots[place]
 }
 
@@ -130,7 +91,7 @@ pub(crate) fn drive(
     let last = m.last;
     if due != 0 {
         columns[at] = 0;
-        let command = words::column_number(due);
+        let command = due + words::COLUMN;
         return Drove { command, last };
     }
     if !offset_allows(timing, m.elided, m.cycle, m.offset) {
@@ -142,7 +103,7 @@ pub(crate) fn drive(
     }
     let word = head_of(slots, heads, owner);
     let bank = words::bank_of(word) as usize;
-    if !gaps_met(timing, last, banks[bank], words::kind_of(word), m.cycle) {
+    if !decisions::gaps_met(timing, last, banks[bank], words::kind_of(word), m.cycle) {
         return Drove { command: 0, last };
     }
     queueing::dequeue(heads, lengths, owner);
@@ -151,15 +112,4 @@ pub(crate) fn drive(
         command: word,
         last: newest,
     }
-}
-
-// The third step of a tick, in place: the word of the response that is due, 0 for none.
-pub(crate) fn answer(cycle: u32, responses: &mut Pending) -> u32
-    ensures word { λ r. ⌜ r ≡ dueAt (now (responses .entry)) cycle ⌝ }
-    ensures sent { λ r. ⌜ now (responses .exit) ≡ sentAt (now (responses .entry)) cycle ⌝ }
-{
-    let at = (cycle % PENDING_PLACES) as usize;
-    let due = responses[at];
-    responses[at] = 0;
-    due
 }

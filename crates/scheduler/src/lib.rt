@@ -1,286 +1,271 @@
-// The scheduler: requests wait in a queue for each class, the traversal gives each turn an owner, and each tick drives the command wires and hands responses back.
+// The scheduler: the calls of a trace one after the other, in place. The traversal gives each turn an owner, and each tick drives the command wires and hands responses
+// back. The crates `calls` and `log` hand its run on, as single calls and as document 01's run.
 
 ghost use mathlib.Core.Path.{_≡_};
-ghost use Rattle.scheduler.specs.Range.{emptyQueues, nothingInFlight, stateAtStart, countsInRange, flightInRange, stateInRange, inRange};
-ghost use Prim.Native.Nat.{_≤_};
-ghost use Rattle.scheduler.specs.Sizes.{lastCycle};
-ghost use Rattle.scheduler.specs.Call.{fresh, offer, silent, tick};
+ghost use mathlib.Core.Bool.{true};
+ghost use mathlib.Core.List.{_++_};
+ghost use Prim.Native.Nat.{_+_, _*_, _≤_};
+ghost use lib.ListN.{length, drop};
+ghost use Rattle.state.specs.Range.{inRange};
+ghost use Rattle.state.specs.declared.State.{State};
+ghost use Rattle.rules.specs.Calls.{answerTo, stateAfter, logOf, lineWritten};
+ghost use Rattle.rules.specs.Run.{run, logAfter};
+ghost use Rattle.scheduler.specs.InPlace.{stateOf, answeredWith, answerOf, Working, Continues};
 use policy::Policy;
-use policy::Timing;
+use requests::Call;
+use state::Banks;
+use state::LAST_CYCLE;
+use state::Pending;
+use state::Ran;
+use state::Slots;
+use state::State;
+use ticking::Called;
+use ticking::Moment;
 
 mod driving;
 mod lookahead;
 mod queueing;
-mod range;
 mod ticking;
-pub mod trace;
 mod traversal;
 mod turning;
-pub mod words;
 
-// The last cycle: a tick there is refused with 12.
-pub(crate) const LAST_CYCLE: u32 = 16777215;
-
-// The places of a class's ring, the pending places, and the banks; and the arrays that have so many: a ring for each of the sixteen classes, a word for each pending
-// place, and a last activate for each bank.
-pub(crate) const RING_PLACES: usize = 8;
-
-pub(crate) const PENDING_PLACES: u32 = 32;
-
-pub(crate) const BANK_COUNT: usize = 8;
-
-pub type Slots = [u32; 128];
-
-pub type Pending = [u32; 32];
-
-pub type Banks = [u32; 8];
-
-// A request, as an offer makes it.
-pub struct Request {
-    pub class: u32,
-    // 0 is a read, 1 a write.
-    pub kind: u32,
-    pub bank: u32,
-    pub tag: u16,
-}
-
-// What the command wires carried in a tick.
-pub enum Wires {
-    Nothing,
-    Activate(Request),
-    // Document 01: a column command.
-    Column(Request),
-}
-
-// What a tick shows.
-pub struct Record {
-    pub wires: Wires,
-    // The word of the response, 0 for none. Document 01: the answer.
-    pub response: u32,
-    // 0 unless a turn starts, then 1 and the owner, and 256 more if its dead time is elided.
-    pub turn: u32,
-}
-
-// The waiting requests, by their words: a ring of eight places for each class, at eight times the class.
-pub struct Queues {
-    pub slots: Slots,
-    // The place of each class's oldest request in its ring.
-    pub heads: [usize; 16],
-    // How many requests of each class wait.
-    pub lengths: [usize; 16],
-}
-
-// Who has the turn, and what each class has left.
-pub struct Turns {
-    pub owner: usize,
-    // Whether the owner's dead time is elided. Document 01: dropped.
-    pub elided: bool,
-    // The turns that each class has left in the epoch.
-    pub left: [u32; 16],
-    // Each class's round-robin pointer: the number of the cover that it names, 0 before the class was reached. Document 01: its mark.
-    pub pointers: [usize; 16],
-}
-
-// What is on its way, and when the last activates were.
-pub struct Flight {
-    // The words of the pending column commands and responses, each at its due cycle modulo 32; 0 for none.
-    pub columns: Pending,
-    pub responses: Pending,
-    // The last activate of each bank, and of all: twice one more than its cycle, plus its kind; 0 where there was none.
-    pub banks: Banks,
-    pub last: u32,
-}
-
-// A state between two calls.
-pub struct State {
-    // The number of the next tick.
-    pub cycle: u32,
-    // The policy's class count.
-    pub classes: usize,
-    pub queues: Queues,
-    pub turns: Turns,
-    pub flight: Flight,
-}
-
-// The answer of asking for a fresh state: 0, or 13 and the state of all zeros.
-pub struct Made {
-    pub status: u32,
-    pub state: State,
-}
-
-// The answer of an offer: 0, or the number that refuses it, and the state after it.
-pub struct Offered {
-    pub status: u32,
-    pub state: State,
-}
-
-// The answer of a tick: 0, or the number that refuses it, the state after it, and what it showed.
-pub struct Ticked {
-    pub status: u32,
-    pub state: State,
-    pub shown: Record,
-}
-
-fn counts_in_range(p: Policy, s: State) -> bool
-    ensures { λ r. ⌜ r ≡ countsInRange p s ⌝ }
+// Writes the four log numbers of a call.
+fn write(log: &mut [u32], at: usize, status: u32, command: u32, response: u32, turn: u32)
+    requires { ⌜ at + 4 ≤ length (now log) ⌝ }
+    ensures { λ r. ⌜ now (log .exit) ≡ lineWritten (now (log .entry)) at status command response turn ⌝ }
 {
-    let turns = s.turns;
-    (s.classes == p.classes)
-        & policy::order::is_class(p.classes, turns.owner)
-        & (s.cycle <= LAST_CYCLE)
+    log[at] = status;
+    log[at + 1] = command;
+    log[at + 2] = response;
+    log[at + 3] = turn;
 }
 
-fn flight_in_range(classes: usize, timing: Timing, cycle: u32, flight: Flight) -> bool
-    requires { ⌜ cycle ≤ lastCycle ⌝ }
-    ensures { λ r. ⌜ r ≡ flightInRange classes timing cycle flight ⌝ }
+// What a call that shows nothing left: its status, and the numbers as they were.
+fn answered(moment: Moment, status: u32) -> Called
+    ensures { λ r. ⌜ r ≡ answeredWith moment status ⌝ }
 {
-    let columns = flight.columns;
-    let responses = flight.responses;
-    let banks = flight.banks;
-    range::activate_in_range(cycle, flight.last)
-        & range::banks_in_range(cycle, &banks)
-        & range::pending_in_range(classes, cycle, timing.column, &columns)
-        & range::pending_in_range(classes, cycle, timing.response, &responses)
-}
-
-// The state's part of document 01's row 13.
-fn state_in_range(s: State, p: Policy) -> bool
-    ensures { λ r. ⌜ r ≡ stateInRange p s ⌝ }
-{
-    if !counts_in_range(p, s) {
-        return false;
-    }
-    let queues = s.queues;
-    let slots = queues.slots;
-    let heads = queues.heads;
-    let lengths = queues.lengths;
-    let turns = s.turns;
-    let left = turns.left;
-    let pointers = turns.pointers;
-    let flight = s.flight;
-    let covers = p.covers;
-    let caps = p.caps;
-    let timing = p.timing;
-    range::queues_in_range(p.classes, &slots, &heads, &lengths)
-        & range::turns_in_range(&covers, &caps, &left, &pointers)
-        & flight_in_range(p.classes, timing, s.cycle, flight)
-}
-
-// Whether a policy and a state handed in are in range: document 01's row 13 does not apply.
-pub fn in_range(p: Policy, s: State) -> bool
-    ensures { λ r. ⌜ r ≡ inRange p s ⌝ }
-{
-    policy::in_range(p) & state_in_range(s, p)
-}
-
-fn empty_queues() -> Queues
-    ensures { λ r. ⌜ r ≡ emptyQueues ⌝ }
-{
-    Queues {
-        slots: [0u32; 128],
-        heads: [0usize; 16],
-        lengths: [0usize; 16],
-    }
-}
-
-fn nothing_in_flight() -> Flight
-    ensures { λ r. ⌜ r ≡ nothingInFlight ⌝ }
-{
-    Flight {
-        columns: [0u32; 32],
-        responses: [0u32; 32],
-        banks: [0u32; 8],
-        last: 0,
-    }
-}
-
-// A state at cycle 0 with these turns left: empty queues, nothing in flight, pointers 0, owner 0 and its dead time kept.
-fn state_at_start(classes: usize, left: [u32; 16]) -> State
-    ensures { λ r. ⌜ r ≡ stateAtStart classes left ⌝ }
-{
-    let queues = empty_queues();
-    let flight = nothing_in_flight();
-    let turns = Turns {
-        owner: 0,
-        elided: false,
-        left,
-        pointers: [0usize; 16],
-    };
-    State {
-        cycle: 0,
-        classes,
-        queues,
-        turns,
-        flight,
-    }
-}
-
-// The fresh state of a policy: 0 and the state, or 13 and the state of all zeros where the policy is unfit.
-pub fn fresh(p: Policy) -> Made
-    ensures { λ r. ⌜ r ≡ fresh p ⌝ }
-{
-    if !policy::in_range(p) {
-        let state = state_at_start(0, [0u32; 16]);
-        return Made { status: 13, state };
-    }
-    let caps = p.caps;
-    let state = state_at_start(p.classes, caps);
-    Made { status: 0, state }
-}
-
-// An offer: 13, 9, 10, 11 in that order. Taken, it goes to the end of its class's queue as it is, and nothing else changes. It is a run over its one trace number.
-pub fn offer(p: Policy, s: State, r: Request) -> Offered
-    ensures { λ o. ⌜ o ≡ offer p s r ⌝ }
-{
-    let trace = [words::word_of(r)];
-    let mut log = [0u32; 4];
-    let ran = trace::run(p, s, &trace, &mut log);
-    let state = ran.state;
-    if ran.status != 0 {
-        return Offered { status: 13, state };
-    }
-    Offered {
-        status: log[0],
-        state,
-    }
-}
-
-// What a refused tick shows: nothing.
-fn silent() -> Record
-    ensures { λ r. ⌜ r ≡ silent ⌝ }
-{
-    Record {
-        wires: Wires::Nothing,
+    Called {
+        moment,
+        status,
+        command: 0,
         response: 0,
         turn: 0,
     }
 }
 
-// A tick: 13, 12; else the three steps of document 01's "A tick". It is a run over the trace number 0.
-pub fn tick(p: Policy, s: State) -> Ticked
-    ensures { λ r. ⌜ r ≡ tick p s ⌝ }
+// The call of a trace word, in place, on a state in range.
+fn call_at(
+    p: Policy,
+    m: Moment,
+    word: u32,
+    rows: &[u16; 16],
+    covers: &[u16; 16],
+    caps: &[u32; 16],
+    slots: &mut Slots,
+    heads: &mut [usize; 16],
+    lengths: &mut [usize; 16],
+    left: &mut [u32; 16],
+    pointers: &mut [usize; 16],
+    columns: &mut Pending,
+    responses: &mut Pending,
+    banks: &mut Banks,
+) -> Called
+    ghost { State }
+    requires { λ s. ⌜ stateOf m (now slots) (now heads) (now lengths) (now left) (now pointers) (now columns) (now responses) (now banks)
+        ≡ s ⌝ }
+    requires { λ s. ⌜ Working p s m (now rows) (now covers) (now caps) ⌝ }
+    ensures answered { λ s r. ⌜ answerOf r (stateOf (r .moment) (now (slots .exit)) (now (heads .exit)) (now (lengths .exit))
+        (now (left .exit)) (now (pointers .exit)) (now (columns .exit)) (now (responses .exit)) (now (banks .exit))) ≡ answerTo p s word ⌝ }
+    ensures next { λ s r. ⌜ Continues p m (r .moment) ⌝ }
 {
-    let trace = [0u32; 1];
-    let mut log = [0u32; 4];
-    let ran = trace::run(p, s, &trace, &mut log);
-    let state = ran.state;
-    if ran.status != 0 {
-        let shown = silent();
-        return Ticked {
+    let call = requests::call_of(word);
+    match call {
+        Call::Tick => {
+            if LAST_CYCLE <= m.cycle {
+                return answered(m, 12);
+            }
+            ticking::tick_in_place(
+                p,
+                m,
+                rows,
+                covers,
+                caps,
+                slots,
+                heads,
+                lengths,
+                left,
+                pointers,
+                columns,
+                responses,
+                banks,
+            )
+        }
+        Call::Offer(r) => {
+            let status = queueing::offer(m.classes, slots, heads, lengths, r, word);
+            answered(m, status)
+        }
+        Call::Malformed => answered(m, 14),
+    }
+}
+
+// The calls of a trace one after the other, in place, on a state in range. (The numbers are locals of their own from call to call: a struct would be copied with the gaps
+// between its fields.)
+fn calls(
+    p: Policy,
+    start: Moment,
+    rows: &[u16; 16],
+    covers: &[u16; 16],
+    caps: &[u32; 16],
+    slots: &mut Slots,
+    heads: &mut [usize; 16],
+    lengths: &mut [usize; 16],
+    left: &mut [u32; 16],
+    pointers: &mut [usize; 16],
+    columns: &mut Pending,
+    responses: &mut Pending,
+    banks: &mut Banks,
+    trace: &[u32],
+    log: &mut [u32],
+) -> Moment
+    ghost { State }
+    requires { λ s. ⌜ stateOf start (now slots) (now heads) (now lengths) (now left) (now pointers) (now columns) (now responses) (now banks)
+        ≡ s ⌝ }
+    requires { λ s. ⌜ Working p s start (now rows) (now covers) (now caps) × (4 * length (now trace) ≤ length (now log)) ⌝ }
+    ensures state { λ s r. ⌜ stateOf r (now (slots .exit)) (now (heads .exit)) (now (lengths .exit)) (now (left .exit))
+        (now (pointers .exit)) (now (columns .exit)) (now (responses .exit)) (now (banks .exit)) ≡ stateAfter p s (now (trace .entry)) ⌝ }
+    ensures logged { λ s r. ⌜ now (log .exit)
+        ≡ logOf p s (now (trace .entry)) ++ drop (4 * length (now (trace .entry))) (now (log .entry)) ⌝ }
+{
+    let bottom = start.bottom;
+    let classes = start.classes;
+    let mut cycle = start.cycle;
+    let mut offset = start.offset;
+    let mut owner = start.owner;
+    let mut elided = start.elided;
+    let mut last = start.last;
+    let mut i = 0;
+    while i < trace.len() {
+        let m = Moment {
+            cycle,
+            offset,
+            bottom,
+            classes,
+            owner,
+            elided,
+            last,
+        };
+        let called = call_at(
+            p,
+            m,
+            trace[i],
+            rows,
+            covers,
+            caps,
+            slots,
+            heads,
+            lengths,
+            left,
+            pointers,
+            columns,
+            responses,
+            banks,
+        );
+        write(
+            log,
+            4 * i,
+            called.status,
+            called.command,
+            called.response,
+            called.turn,
+        );
+        let after = called.moment;
+        cycle = after.cycle;
+        offset = after.offset;
+        owner = after.owner;
+        elided = after.elided;
+        last = after.last;
+        i += 1;
+    }
+    Moment {
+        cycle,
+        offset,
+        bottom,
+        classes,
+        owner,
+        elided,
+        last,
+    }
+}
+
+// The calls of a whole trace, on a state in range: its arrays and numbers are moved into locals once, worked on in place, and put together at the end.
+fn advance(s: State, p: Policy, trace: &[u32], log: &mut [u32]) -> State
+    requires { ⌜ (inRange p s ≡ true) × (4 * length (now trace) ≤ length (now log)) ⌝ }
+    ensures state { λ r. ⌜ r ≡ stateAfter p s (now (trace .entry)) ⌝ }
+    ensures logged { λ r. ⌜ now (log .exit)
+        ≡ logOf p s (now (trace .entry)) ++ drop (4 * length (now (trace .entry))) (now (log .entry)) ⌝ }
+{
+    let rows = p.rows;
+    let covers = p.covers;
+    let caps = p.caps;
+    let queues = s.queues;
+    let mut slots = queues.slots;
+    let mut heads = queues.heads;
+    let mut lengths = queues.lengths;
+    let turns = s.turns;
+    let mut left = turns.left;
+    let mut pointers = turns.pointers;
+    let flight = s.flight;
+    let mut columns = flight.columns;
+    let mut responses = flight.responses;
+    let mut banks = flight.banks;
+    let start = ticking::moment_of(p, s);
+    let end = calls(
+        p,
+        start,
+        &rows,
+        &covers,
+        &caps,
+        &mut slots,
+        &mut heads,
+        &mut lengths,
+        &mut left,
+        &mut pointers,
+        &mut columns,
+        &mut responses,
+        &mut banks,
+        trace,
+        log,
+    );
+    ticking::state_of(
+        end,
+        slots,
+        heads,
+        lengths,
+        left,
+        pointers,
+        columns,
+        responses,
+        banks,
+    )
+}
+
+// A run over a trace: 13, 15; else each trace number's call in order, whose four numbers go into the log. Numbers past them stay, and a refused run writes nothing.
+pub fn run(p: Policy, s: State, trace: &[u32], log: &mut [u32]) -> Ran
+    ensures { λ r. ⌜ r ≡ run p s (now (trace .entry)) (now (log .entry)) ⌝ }
+    ensures { λ r. ⌜ now (log .exit) ≡ logAfter p s (now (trace .entry)) (now (log .entry)) ⌝ }
+{
+    if !state::in_range(p, s) {
+        return Ran {
             status: 13,
-            state,
-            shown,
+            state: s,
         };
     }
-    let wires = words::wires_of(log[1]);
-    let shown = Record {
-        wires,
-        response: log[2],
-        turn: log[3],
-    };
-    Ticked {
-        status: log[0],
-        state,
-        shown,
+    if log.len() / 4 < trace.len() {
+        return Ran {
+            status: 15,
+            state: s,
+        };
     }
+    let state = advance(s, p, trace, log);
+    Ran { status: 0, state }
 }

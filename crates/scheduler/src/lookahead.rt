@@ -2,9 +2,8 @@
 
 ghost use mathlib.Core.Path.{_≡_};
 ghost use Prim.Native.Nat.{_<_};
-ghost use Rattle.scheduler.specs.Lookahead.{lookingAhead, reaches};
-ghost use Rattle.scheduler.specs.Climb.{Climbs};
-use super::traversal;
+ghost use Rattle.rules.specs.Lookahead.{lookingAhead, reaches};
+ghost use Rattle.rules.specs.Climb.{Climbs};
 
 // Whether the lookahead, from a class on, reaches the owner. The pointers stay as they are.
 pub(crate) fn reaches(
@@ -21,13 +20,13 @@ pub(crate) fn reaches(
 {
     let mut class = from;
     while class != owner {
-        let flows = policy::mask::has(rows[class], owner);
+        let flows = order::mask::has(rows[class], owner);
         let spent = left[class] == 0;
         if !(flows & spent) {
             return false;
         }
-        let pointer = traversal::moved(covers[class], pointers[class]);
-        class = policy::mask::nth(covers[class], pointer);
+        let pointer = decisions::moved(covers[class], pointers[class]);
+        class = order::mask::nth(covers[class], pointer);
     }
     true
 }

@@ -3,23 +3,17 @@
 ghost use mathlib.Core.Path.{_≡_};
 ghost use Prim.Native.Nat.{ℕ, _+_, _-_, _%_, _<_};
 ghost use lib.ListN.{getD, set};
-ghost use Rattle.policy.specs.Laws.{SmallClasses};
-ghost use Rattle.scheduler.specs.Word.{wordOf};
-ghost use Rattle.scheduler.specs.Queue.{place, enqueue, offerStatus, queuesAfter};
-ghost use Rattle.scheduler.specs.Sizes.{ringPlaces};
-ghost use Rattle.scheduler.specs.declared.Queues.{Queues};
-ghost use Rattle.scheduler.specs.InPlace.{queuesOf};
-use super::RING_PLACES;
-use super::Request;
-use super::Slots;
-use super::words;
-
-pub(crate) fn place(class: usize, head: usize, k: usize) -> usize
-    requires { ⌜ (class < 16) × (head < ringPlaces) × (k < ringPlaces) ⌝ }
-    ensures { λ r. ⌜ r ≡ place class head k ⌝ }
-{
-    RING_PLACES * class + (head + k) % RING_PLACES
-}
+ghost use Rattle.order.specs.Laws.{SmallClasses};
+ghost use Rattle.requests.specs.Word.{wordOf};
+ghost use Rattle.state.specs.Stored.{place, queuesOf};
+ghost use Rattle.rules.specs.Queue.{enqueue, offerStatus, queuesAfter};
+ghost use Rattle.requests.specs.Sizes.{ringPlaces};
+ghost use Rattle.state.specs.declared.Queues.{Queues};
+use requests::Request;
+use requests::words;
+use state::RING_PLACES;
+use state::Slots;
+use state::stored;
 
 // Puts a word at the end of a class's queue, which is not full.
 pub(crate) fn enqueue(
@@ -35,7 +29,7 @@ pub(crate) fn enqueue(
 {
     let head = heads[class];
     let length = lengths[class];
-    slots[place(class, head, length)] = word;
+    slots[stored::place(class, head, length)] = word;
     lengths[class] = length + 1;
 }
 

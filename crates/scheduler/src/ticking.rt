@@ -3,22 +3,23 @@
 ghost use mathlib.Core.Path.{_≡_};
 ghost use Prim.Native.Nat.{_+_, _%_, _<_};
 ghost use Rattle.policy.specs.Laws.{TimingLaws};
-ghost use Rattle.scheduler.specs.Sizes.{lastCycle};
-ghost use Rattle.scheduler.specs.declared.State.{State};
-ghost use Rattle.scheduler.specs.Call.{afterTick};
-ghost use Rattle.scheduler.specs.Calls.{ticked};
+ghost use Rattle.requests.specs.Sizes.{lastCycle};
+ghost use Rattle.state.specs.declared.State.{State};
+ghost use Rattle.rules.specs.Call.{afterTick};
+ghost use Rattle.rules.specs.Calls.{ticked};
 ghost use Rattle.scheduler.specs.InPlace.{momentOf, nextMoment, stateOf, answerOf, Working, Continues};
-use super::Banks;
-use super::Flight;
-use super::Pending;
-use super::Queues;
-use super::Slots;
-use super::State;
-use super::Turns;
 use super::driving;
 use super::turning;
 use policy::Policy;
 use policy::Timing;
+use state::Banks;
+use state::Flight;
+use state::Pending;
+use state::Queues;
+use state::Slots;
+use state::State;
+use state::Turns;
+use state::stored;
 
 // The numbers of a state that stand in no array, and two that need not be worked out at each tick: the offset in the turn, and the policy's least class.
 pub struct Moment {
@@ -31,9 +32,10 @@ pub struct Moment {
     pub last: u32,
 }
 
-// What a tick in place left, beside the arrays, and its numbers in the log.
-pub struct Ticking {
+// What a call in place left, beside the arrays, and its four numbers in the log.
+pub struct Called {
     pub moment: Moment,
+    pub status: u32,
     pub command: u32,
     pub response: u32,
     pub turn: u32,
@@ -47,7 +49,7 @@ pub(crate) fn moment_of(p: Policy, s: State) -> Moment
     let rows = p.rows;
     let turns = s.turns;
     let flight = s.flight;
-    let bottom = policy::order::least_in(p.classes, rows);
+    let bottom = order::least_in(p.classes, rows);
     Moment {
         cycle: s.cycle,
         offset: s.cycle % timing.turn,
@@ -141,7 +143,7 @@ pub(crate) fn tick_in_place(
     columns: &mut Pending,
     responses: &mut Pending,
     banks: &mut Banks,
-) -> Ticking
+) -> Called
     ghost { State }
     requires { λ s. ⌜ stateOf m (now slots) (now heads) (now lengths) (now left) (now pointers) (now columns) (now responses) (now banks)
         ≡ s ⌝ }
@@ -171,10 +173,11 @@ pub(crate) fn tick_in_place(
         responses,
         banks,
     );
-    let response = driving::answer(m.cycle, responses);
+    let response = stored::take_due(m.cycle, responses);
     let moment = next_moment(timing, turned, drove.last);
-    Ticking {
+    Called {
         moment,
+        status: 0,
         command: drove.command,
         response,
         turn: owned.shown,

@@ -3,29 +3,8 @@
 ghost use mathlib.Core.Path.{_≡_};
 ghost use Prim.Native.Nat.{_<_};
 ghost use lib.ListN.{length, getD};
-ghost use Rattle.scheduler.specs.Traversal.{moved, namedNow, takesBy, candidates, tryClass};
-ghost use Rattle.scheduler.specs.Climb.{Climbs, Names};
-
-// The round-robin pointer, moved on by 1: from the number of covers back to 1, and 0 where there are none.
-pub(crate) fn moved(covers: u16, pointer: usize) -> usize
-    ensures { λ r. ⌜ r ≡ moved covers pointer ⌝ }
-{
-    if covers == 0 {
-        return 0;
-    }
-    if pointer < policy::mask::size(covers) {
-        pointer + 1
-    } else {
-        1
-    }
-}
-
-// A class takes the turn if it has a request waiting and turns left, or if nothing is above it, so that it has no cover.
-fn takes(covers: u16, length: usize, left: u32) -> bool
-    ensures { λ r. ⌜ r ≡ takesBy covers length left ⌝ }
-{
-    (length != 0) & (left != 0) | (covers == 0)
-}
+ghost use Rattle.rules.specs.Traversal.{namedNow, candidates, tryClass};
+ghost use Rattle.rules.specs.Climb.{Climbs, Names};
 
 // A class is tried: its pointer moves, and it takes the turn or passes it on. The rows are those of the order: what the recursion falls by.
 pub(crate) fn try_class(
@@ -40,8 +19,8 @@ pub(crate) fn try_class(
     ensures { λ r. ⌜ record { owner = r; pointers = now (pointers .exit) }
         ≡ tryClass 16 (candidates (now (covers .entry)) (now (lengths .entry)) (now (left .entry))) (now (pointers .entry)) class ⌝ }
 {
-    pointers[class] = moved(covers[class], pointers[class]);
-    if takes(covers[class], lengths[class], left[class]) {
+    pointers[class] = decisions::moved(covers[class], pointers[class]);
+    if decisions::takes(covers[class], lengths[class], left[class]) {
         return class;
     }
     ascend(rows, covers, lengths, left, pointers, class)
@@ -62,6 +41,6 @@ fn ascend(
         ≡ tryClass 16 (candidates (now (covers .entry)) (now (lengths .entry)) (now (left .entry))) (now (pointers .entry))
         (namedNow (now (covers .entry)) (now (pointers .entry)) class) ⌝ }
 {
-    let next = policy::mask::nth(covers[class], pointers[class]);
+    let next = order::mask::nth(covers[class], pointers[class]);
     try_class(rows, covers, lengths, left, pointers, next)
 }

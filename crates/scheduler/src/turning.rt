@@ -3,15 +3,16 @@
 
 ghost use mathlib.Core.Path.{_≡_};
 ghost use mathlib.Core.Bool.{true};
-ghost use Prim.Native.Nat.{_-_, _<_};
+ghost use Prim.Native.Nat.{_<_};
 ghost use lib.ListN.{length};
 ghost use Rattle.policy.specs.Policy.{least, inRange};
-ghost use Rattle.scheduler.specs.Sizes.{lastCycle};
-ghost use Rattle.scheduler.specs.Traversal.{firstClass, charge};
-ghost use Rattle.scheduler.specs.Lookahead.{elides};
-ghost use Rattle.scheduler.specs.Step.{leftAtStart, turnWord, startTurn, turnsAt};
-ghost use Rattle.scheduler.specs.declared.Turns.{Turns};
-ghost use Rattle.scheduler.specs.InPlace.{Lent, InStep, turnsOf, startOf};
+ghost use Rattle.requests.specs.Sizes.{lastCycle};
+ghost use Rattle.rules.specs.Traversal.{firstClass, charge};
+ghost use Rattle.rules.specs.Lookahead.{elides};
+ghost use Rattle.rules.specs.Step.{leftAtStart, startTurn, turnsAt};
+ghost use Rattle.state.specs.declared.Turns.{Turns};
+ghost use Rattle.scheduler.specs.InPlace.{Lent, InStep, startOf};
+ghost use Rattle.state.specs.Stored.{turnsOf};
 use super::lookahead;
 use super::ticking::Moment;
 use super::traversal;
@@ -42,18 +43,12 @@ fn left_at_start(p: Policy, number: u32, caps: &[u32; 16], left: &mut [u32; 16])
     }
 }
 
-fn one_less(left: u32) -> u32
-    ensures { λ r. ⌜ r ≡ left - 1 ⌝ }
-{
-    if left == 0 { 0 } else { left - 1 }
-}
-
 // The owner's turns left fall by 1, not below 0.
 fn charge(left: &mut [u32; 16], owner: usize)
     requires { ⌜ owner < 16 ⌝ }
     ensures { λ r. ⌜ now (left .exit) ≡ charge (now (left .entry)) owner ⌝ }
 {
-    left[owner] = one_less(left[owner]);
+    left[owner] = decisions::one_less(left[owner]);
 }
 
 // Whether the owner's dead time is elided: the lookahead goes by the caps, in an epoch's last turn.
@@ -78,19 +73,6 @@ fn elides(
     lookahead::reaches(rows, covers, left, pointers, owner, from)
 }
 
-// A started turn's number in the log.
-fn turn_word(owner: usize, elided: bool) -> u32
-    requires { ⌜ owner < 16 ⌝ }
-    ensures { λ r. ⌜ r ≡ turnWord owner elided ⌝ }
-{
-    let number = owner as u32;
-    if elided {
-        1 + number + 256
-    } else {
-        1 + number + 0
-    }
-}
-
 // Starts the turn with the given number.
 fn start_turn(
     p: Policy,
@@ -112,7 +94,7 @@ fn start_turn(
     let owner = traversal::try_class(rows, covers, lengths, left, pointers, from);
     charge(left, owner);
     let elided = elides(p, bottom, number, rows, covers, caps, left, pointers, owner);
-    let shown = turn_word(owner, elided);
+    let shown = decisions::turn_word(owner, elided);
     Owned {
         owner,
         elided,

@@ -9,7 +9,7 @@ use lib.ListN.{length, getD, drop, set, length-append}
 use lib.Seq.{sets}
 use Rattle.text.specs.Lines.{digit, hexOf, lineOf, lineAt, linesOf}
 use Rattle.text.specs.Words.{wordAt, wordsOf}
-use Rattle.policy.proofs.Stores.{sets-append, written-more}
+use Rattle.basics.proofs.Stores.{sets-append, written-more}
 
 -- ---- lines
 

@@ -61,7 +61,8 @@ fn put_line(table: &[u8; 512], log: &[u32], i: usize, out: &mut [u8])
     put_number(table, log[from + 3], 10, out, at + 27);
 }
 
-// Writes the lines of the log to the start of `out`: as many whole lines as the log has and `out` has room for. Answers how many bytes they are.
+// Writes the lines of the log to the start of `out`: as many whole lines as the log has and `out` has room for. Answers how many bytes they are. (Document 01 leaves open what
+// becomes of a log that ends inside a line, or of too little room: the rest is left.)
 pub fn lines(log: &[u32], out: &mut [u8]) -> usize
     ensures { λ r. ⌜ r ≡ 36 * lineCount (now (log .entry)) (now (out .entry)) ⌝ }
     ensures { λ r. ⌜ now (out .exit) ≡ linesOf (lineCount (now (log .entry)) (now (out .entry))) (now (log .entry)) ++ drop r (now (out .entry)) ⌝ }
@@ -106,7 +107,8 @@ fn word_at(bytes: &[u8], i: usize) -> u32
         + 16777216 * wide(bytes[at + 3])
 }
 
-// Writes the words of the bytes to the start of `out`: as many whole words as the bytes have and `out` has room for. Answers how many they are.
+// Writes the words of the bytes to the start of `out`: as many whole words as the bytes have and `out` has room for. Answers how many they are. (Document 01 leaves open what
+// becomes of left-over bytes, or of too little room, here: the rest is left. The program tells left-over bytes.)
 pub fn words(bytes: &[u8], out: &mut [u32]) -> usize
     ensures { λ r. ⌜ r ≡ wordCount (now (bytes .entry)) (now (out .entry)) ⌝ }
     ensures { λ r. ⌜ now (out .exit) ≡ wordsOf r (now (bytes .entry)) ++ drop r (now (out .entry)) ⌝ }

@@ -6,7 +6,7 @@ ghost use lib.ListN.{length};
 ghost use Rattle.io.specs.Counts.{Counts};
 use libc::STDOUT_FILENO;
 use policy::Policy;
-use scheduler::State;
+use state::State;
 
 // How much of a buffer was filled, and whether a read failed.
 struct Filled {
@@ -136,7 +136,7 @@ fn block(
 
 // The whole trace, block by block. A proved loop has to end, and nothing says that a file does: so it counts down from a number of blocks that no run uses up.
 fn stream(p: Policy, fd: i32) {
-    let made = scheduler::fresh(p);
+    let made = state::fresh(p);
     let mut state = made.state;
     let mut bytes = [0u8; 16384];
     let mut words = [0u32; 4096];
@@ -172,7 +172,7 @@ fn main() {
         return;
     }
     let count = filled.count;
-    let reading = policy::file::read(&buffer[..count]);
+    let reading = file::read(&buffer[..count]);
     if reading.status != 0 {
         refused(reading.status);
         return;

@@ -3,7 +3,7 @@
 use mathlib.Core.Path.{_≡_, sym, ap, _∙_}
 use borrow.Author.Needs.{needs}
 use Rattle.policy.specs.declared.Policy.{Policy}
-use Rattle.policy.specs.declared.Reading.{Reading}
+use Rattle.file.specs.declared.Reading.{Reading}
 use Rattle.extract.specs.Extract.{extract, outAfter}
 use Rattle.extract.specs.declared.Extracted.{Extracted}
 use Rattle.capi.proofs.Sides.{refused-extract, taken-extract}

@@ -3,12 +3,12 @@
 use mathlib.Core.Path.{_≡_, sym, ap, _∙_}
 use borrow.Author.Needs.{needs}
 use Rattle.policy.specs.declared.Policy.{Policy}
-use Rattle.policy.specs.declared.Reading.{Reading}
-use Rattle.scheduler.specs.Call.{fresh}
-use Rattle.scheduler.specs.Run.{run, logAfter}
-use Rattle.scheduler.specs.declared.Made.{Made}
-use Rattle.scheduler.specs.declared.State.{State}
-use Rattle.scheduler.specs.declared.trace.Ran.{Ran}
+use Rattle.file.specs.declared.Reading.{Reading}
+use Rattle.state.specs.Fresh.{fresh}
+use Rattle.rules.specs.Run.{run, logAfter}
+use Rattle.state.specs.declared.Made.{Made}
+use Rattle.state.specs.declared.State.{State}
+use Rattle.state.specs.declared.Ran.{Ran}
 use Rattle.capi.proofs.Sides.{refused, taken}
 use Rattle.capi.proofs.vigambul_run.Statement.{statement}
 use Rattle.capi.proofs.vigambul_run.Tie as tie

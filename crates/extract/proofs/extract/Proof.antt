@@ -8,9 +8,9 @@ use native.Mathlib.Omega.{arith}
 use borrow.Author.Tests.{eqb-true}
 use borrow.Author.Needs.{needs}
 use lib.ListN.{length, drop}
-use Rattle.policy.specs.Mask.{member}
+use Rattle.order.specs.Mask.{member}
 use Rattle.policy.specs.Policy.{inRange, isClass}
-use Rattle.policy.proofs.Truth.{not-true, not-not}
+use Rattle.basics.proofs.Truth.{not-true, not-not}
 use Rattle.extract.specs.Extract.{extractStatus}
 use Rattle.extract.proofs.Grown.{kept-le}
 use Rattle.extract.proofs.Answers.{four-times, refused-13, refused-9, refused-17, refused-16, not-refused, refused, taken, written, kept-is, count-is}

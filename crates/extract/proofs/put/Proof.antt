@@ -3,7 +3,7 @@
 use native.Mathlib.Omega.{arith}
 use borrow.Author.Needs.{needs}
 use lib.ListN.{length-set}
-use Rattle.policy.proofs.Stores.{four}
+use Rattle.basics.proofs.Stores.{four}
 use Rattle.extract.proofs.put.Statement.{statement}
 use Rattle.extract.proofs.put.Tie as tie
 

@@ -10,9 +10,9 @@ use native.Mathlib.Nat.{lt-of-lt-of-le}
 use borrow.Author.Needs.{needs}
 use borrow.Author.Tests.{lt-ltb}
 use lib.Pow.{pow-mono}
-use Rattle.policy.specs.Below.{sum, setOf}
-use Rattle.policy.specs.Mask.{classMask}
-use Rattle.policy.proofs.Masks.{setOf-below}
+use Rattle.basics.specs.Below.{sum, setOf}
+use Rattle.order.specs.Mask.{classMask}
+use Rattle.order.proofs.Masks.{setOf-below}
 use Rattle.extract.specs.Seen.{seenBy}
 use Rattle.extract.proofs.seen_by.Statement.{statement}
 use Rattle.extract.proofs.seen_by.Tie as tie

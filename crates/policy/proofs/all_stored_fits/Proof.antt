@@ -3,7 +3,7 @@
 use Prim.Native.Nat.{_-_}
 use borrow.Author.Needs.{needs}
 use Rattle.policy.specs.Policy.{storedFits, allStoredFits}
-use Rattle.policy.proofs.Loops.{Passed, passed-none, passed-all, goes-on, stops}
+use Rattle.basics.proofs.Loops.{Passed, passed-none, passed-all, goes-on, stops}
 use Rattle.policy.proofs.all_stored_fits.Statement.{statement}
 use Rattle.policy.proofs.all_stored_fits.Tie as tie
 

@@ -11,8 +11,8 @@ use lib.Dec.{eqb, ltb}
 use lib.ListN.{length, getD}
 use Rattle.policy.specs.Timing.{within}
 use Rattle.policy.specs.Policy.{shaped, inRange}
-use Rattle.policy.proofs.Truth.{and-both}
-use Rattle.policy.proofs.Below.{every-all}
+use Rattle.basics.proofs.Truth.{and-both}
+use Rattle.basics.proofs.Below.{every-all}
 use Rattle.policy.proofs.in_range.Statement.{statement}
 use Rattle.policy.proofs.in_range.Tie as tie
 

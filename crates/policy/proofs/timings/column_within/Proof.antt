@@ -7,7 +7,7 @@ use Prim.Native.Nat.{_-_}
 use native.Mathlib.Omega.{arith}
 use borrow.Author.Tests.{le-leb, lt-leb, lt-ltb, le-ltb}
 use lib.Dec.{leb}
-use Rattle.policy.proofs.Below.{lt-or-ge}
+use Rattle.basics.proofs.Below.{lt-or-ge}
 use Rattle.policy.specs.Timing.{within}
 use Rattle.policy.proofs.timings.column_within.Statement.{statement}
 use Rattle.policy.proofs.timings.column_within.Tie as tie

@@ -5,9 +5,9 @@ use mathlib.Core.Bool.{true}
 use Prim.Native.Nat.{ℕ, _-_}
 use native.Mathlib.Omega.{arith}
 use borrow.Author.Needs.{needs}
-use Rattle.policy.specs.Order.{isClassIn}
+use Rattle.order.specs.Order.{isClassIn}
 use Rattle.policy.specs.Turns.{capIn}
-use Rattle.policy.proofs.Truth.{not-true, not-not}
+use Rattle.basics.proofs.Truth.{not-true, not-not}
 use Rattle.policy.proofs.turns.cap_in.Statement.{statement}
 use Rattle.policy.proofs.turns.cap_in.Tie as tie
 

@@ -10,9 +10,9 @@ use borrow.Author.Needs.{needs}
 use mir.Syntax.{w32}
 use mir.Val.{Fits}
 use lib.ListN.{getD}
-use Rattle.policy.specs.Order.{strictlyIn}
+use Rattle.order.specs.Order.{strictlyIn}
 use Rattle.policy.specs.Turns.{minimumsAbove}
-use Rattle.policy.proofs.Loops.{Summed, summed-none, summed-more, summed-all}
+use Rattle.basics.proofs.Loops.{Summed, summed-none, summed-more, summed-all}
 use Rattle.policy.proofs.turns.minimums_above.Statement.{statement}
 use Rattle.policy.proofs.turns.minimums_above.Tie as tie
 

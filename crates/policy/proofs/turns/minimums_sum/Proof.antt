@@ -8,7 +8,7 @@ use mir.Syntax.{w32}
 use mir.Val.{Fits}
 use lib.ListN.{getD}
 use Rattle.policy.specs.Turns.{minimumsSum}
-use Rattle.policy.proofs.Loops.{Summed, summed-none, summed-more, summed-all}
+use Rattle.basics.proofs.Loops.{Summed, summed-none, summed-more, summed-all}
 use Rattle.policy.proofs.turns.minimums_sum.Statement.{statement}
 use Rattle.policy.proofs.turns.minimums_sum.Tie as tie
 

@@ -1,10 +1,11 @@
 -- `scheduler::driving::activate` meets its contract: the four stores are those of the definition.
 -- Assumes nothing.
-use mathlib.Core.Path.{sym, subst}
-use Prim.Native.Nat.{ℕ, _<_}
+use mathlib.Core.Path.{_≡_, sym, subst}
+use Prim.Native.Nat.{ℕ, _%_, _<_}
 use native.Mathlib.Omega.{arith}
 use borrow.Author.Needs.{needs}
-use Rattle.scheduler.specs.Wire.{activated}
+use Rattle.requests.specs.Word.{kindOf}
+use Rattle.rules.specs.Wire.{activated}
 use Rattle.scheduler.proofs.driving.activate.Statement.{statement}
 use Rattle.scheduler.proofs.driving.activate.Tie as tie
 
@@ -34,7 +35,7 @@ kind-of-requires : tie.Need-kind-of-requires
 kind-of-requires c κs = search needs
 
 activate-at-requires : tie.Need-activate-at-requires
-activate-at-requires c κs = let start = c .before .before .before .before in (start .pre .1, subst (λ (k : ℕ). k < 2) (sym (c .kind-of .ensures)) (start .pre .3))
+activate-at-requires c κs = search needs
 
 mul-columns : tie.Need-mul-columns
 mul-columns c = search needs
@@ -56,7 +57,13 @@ element-write-banks c = bank-here (c .before .before)
 
 returns : tie.Need-returns
 unfolding activated
-returns c = rw (c .activate-at .ensures, c .before .kind-of .ensures, c .before .before .bank-of .ensures)
+returns c =
+    let start = c .before .before .before .before .before in
+    let cycle = start .args .cycle in
+    let kind = kindOf (start .args .word) in
+    let same-cycle : cycle % 16777216 ≡ cycle = omega (arith, start .pre .1) in
+    let same-kind : kind % 2 ≡ kind = omega (arith, start .pre .3) in
+    rw (c .activate-at .ensures, c .before .kind-of .ensures, c .before .before .bank-of .ensures, same-cycle, same-kind)
 
 pub activate-spec : {M : Type 1} → statement M
 activate-spec =

@@ -2,23 +2,24 @@
 -- Assumes nothing.
 use mathlib.Core.Path.{_≡_, sym, ap, ap₂, _∙_, subst}
 use mathlib.Core.Bool.{true, _&&_}
-use Prim.Native.Nat.{ℕ, _<_, zero-le}
+use Prim.Native.Nat.{ℕ, _%_, _<_, zero-le}
 use native.Mathlib.Omega.{arith}
 use borrow.Author.Needs.{needs}
 use borrow.Author.Tests.{eq-eqb, ne-eqb, lt-ltb, le-ltb}
 use lib.Arith.{lt-of-le-ne}
 use lib.Dec.{ltb, eqb}
 use lib.ListN.{getD}
-use Rattle.policy.proofs.Truth.{not-true, not-not, and-both, and-fails-left, and-fails-right}
-use Rattle.scheduler.specs.Word.{isOffer, columnNumber, commandNumber}
-use Rattle.scheduler.specs.Queue.{headOf, lengthOf, waitingAt, dequeue}
-use Rattle.scheduler.specs.Wire.{dueAt, sentAt, gapsMetBy, gapsMet, offsetAllows, activated}
-use Rattle.scheduler.specs.Step.{Driven, Bus, dueColumn, goesAt, going, canActivate, drive}
-use Rattle.scheduler.specs.Ready.{SoundRequest}
-use Rattle.scheduler.specs.InPlace.{queuesOf, flightOf, busOf}
-use Rattle.scheduler.specs.declared.Queues.{Queues}
-use Rattle.scheduler.proofs.Word.{word-back}
-use Rattle.scheduler.proofs.Step.{drive-column, drive-nothing, drive-activate}
+use Rattle.basics.proofs.Truth.{not-true, not-not, and-both, and-fails-left, and-fails-right}
+use Rattle.requests.specs.Word.{isOffer, columnNumber, commandNumber}
+use Rattle.state.specs.Stored.{headOf, lengthOf, waitingAt, dueAt, queuesOf, flightOf, sentAt}
+use Rattle.rules.specs.Queue.{dequeue}
+use Rattle.rules.specs.Wire.{gapsMetBy, gapsMet, offsetAllows, activated}
+use Rattle.rules.specs.Step.{Driven, Bus, dueColumn, goesAt, going, canActivate, drive}
+use Rattle.rules.specs.Ready.{SoundRequest}
+use Rattle.scheduler.specs.InPlace.{busOf}
+use Rattle.state.specs.declared.Queues.{Queues}
+use Rattle.requests.proofs.Word.{word-back, offer-fits}
+use Rattle.rules.proofs.Step.{drive-column, drive-nothing, drive-activate}
 use Rattle.scheduler.proofs.driving.drive.Statement.{statement}
 use Rattle.scheduler.proofs.driving.drive.Tie as tie
 
@@ -84,10 +85,12 @@ unfolding gapsMet
 gaps-are c =
     let a = start-gaps c .args in
     let head = at-head c in
+    let kind = c .before .kind-of .result in
+    let kind-is : kind % 2 ≡ kind = omega (arith, c .before .kind-of .ensures, sound head .kind) in
     let met : ℕ → ℕ → _ = λ bank kind. gapsMetBy (a .timing) (a .m .last) (getD (a .banks .now) bank 0) kind (a .m .cycle) in
     sym
     (c .gaps-met .ensures
-    ∙ ap₂ met (c .before .before .before .bank-of .ensures) (c .before .kind-of .ensures)
+    ∙ ap₂ met (c .before .before .before .bank-of .ensures) (kind-is ∙ c .before .kind-of .ensures)
     ∙ ap (λ (w : ℕ). gapsMet (a .timing) (bus-of (start-gaps c) .flight) w (a .m .cycle)) (word-is head))
 
 -- ---- the outcomes, in the words of the contract
@@ -122,16 +125,16 @@ due-offer : (c : tie.Then1) → isOffer (dueColumn (bus-of (c .before .before .b
 unfolding dueAt
 due-offer c = c .before .before .before .pre .0 .due-offer (c .if1 .taken)
 
-column-number-requires : tie.Need-column-number-requires
+add-command : tie.Need-add-command
 unfolding dueAt
-column-number-requires c κs = due-offer c
+add-command c = omega (arith, offer-fits _ (due-offer c))
 
 returns : tie.Need-returns
-unfolding dueAt sentAt commandNumber
+unfolding dueAt sentAt columnNumber commandNumber
 returns c =
-    let b = bus-of (c .before .before .before .before) in
-    let e = drive-column b (ne-eqb _ 0 (c .before .if1 .taken)) in
-    (c .column-number .ensures ∙ sym (ap columnNumber (word-back (dueColumn b) (due-offer (c .before)))) ∙ wires-so b _ e, (queues-so b _ e, flight-so b _ e))
+    let b = bus-of (c .before .before .before) in
+    let e = drive-column b (ne-eqb _ 0 (c .if1 .taken)) in
+    (sym (ap columnNumber (word-back (dueColumn b) (due-offer c))) ∙ wires-so b _ e, (queues-so b _ e, flight-so b _ e))
 
 offset-allows-requires : tie.Need-offset-allows-requires
 offset-allows-requires c κs = search needs
@@ -182,10 +185,7 @@ kind-of-requires : tie.Need-kind-of-requires
 kind-of-requires c κs = search needs
 
 gaps-met-requires : tie.Need-gaps-met-requires
-gaps-met-requires c κs =
-    let head = c .before .before .before in
-    let s = start-head head in
-    (s .pre .0 .timed, subst (λ (k : ℕ). k < 2) (sym (c .kind-of .ensures)) (sound head .kind), s .pre .0 .ticks-left)
+gaps-met-requires c κs = search needs
 
 returns-4 : tie.Need-returns-4
 unfolding commandNumber canActivate
@@ -245,7 +245,7 @@ drive-spec =
     element-copy-out-due
     mul-columns
     element-write-columns
-    column-number-requires
+    add-command
     returns
     offset-allows-requires
     returns-2

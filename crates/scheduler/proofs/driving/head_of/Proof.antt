@@ -2,7 +2,9 @@
 -- Assumes nothing.
 use native.Mathlib.Omega.{arith}
 use borrow.Author.Needs.{needs}
-use Rattle.scheduler.specs.Queue.{place}
+use lib.ListN.{getD}
+use Rattle.state.specs.Stored.{place}
+use Rattle.state.proofs.Rings.{of-class}
 use Rattle.scheduler.proofs.driving.head_of.Statement.{statement}
 use Rattle.scheduler.proofs.driving.head_of.Tie as tie
 
@@ -24,7 +26,7 @@ unfolding place
 element-copy-out-result c = omega (arith, c .place .ensures)
 
 returns : tie.Need-returns
-returns c = rw (c .before .place .ensures)
+returns c = let s = c .before .before .before in rw (c .before .place .ensures, of-class (s .args .class) (getD (s .args .heads .now) (s .args .class) 0) 0 (s .pre .0))
 
 pub head-of-spec : {M : Type 1} → statement M
 head-of-spec =

@@ -5,7 +5,7 @@ use mathlib.Core.Bool.{_||_}
 use Prim.Native.Nat.{ℕ, _-_}
 use borrow.Author.Needs.{needs}
 use lib.Dec.{ltb}
-use Rattle.scheduler.specs.Wire.{offsetAllows}
+use Rattle.rules.specs.Wire.{offsetAllows}
 use Rattle.scheduler.proofs.driving.offset_allows.Statement.{statement}
 use Rattle.scheduler.proofs.driving.offset_allows.Tie as tie
 

@@ -8,14 +8,14 @@ use borrow.Author.Needs.{needs}
 use borrow.Author.Tests.{eq-eqb, ne-eqb}
 use lib.Dec.{eqb}
 use lib.ListN.{getD}
-use Rattle.policy.specs.Mask.{member, nth}
-use Rattle.policy.specs.Order.{flowsIn, strictlyIn, aboveIn}
-use Rattle.policy.proofs.Truth.{not-true, not-not}
-use Rattle.policy.proofs.Below.{count-le}
-use Rattle.policy.proofs.Masks.{member-small}
-use Rattle.scheduler.specs.Traversal.{movedPointer, named}
-use Rattle.scheduler.specs.Lookahead.{Ahead, lookingAhead, goesOn, reaches}
-use Rattle.scheduler.proofs.LookaheadLaws.{reach-here, reach-fails, reach-on, on-covers, reach-enough}
+use Rattle.order.specs.Mask.{member, nth}
+use Rattle.order.specs.Order.{flowsIn, strictlyIn, aboveIn}
+use Rattle.basics.proofs.Truth.{not-true, not-not}
+use Rattle.basics.proofs.Below.{count-le}
+use Rattle.order.proofs.Masks.{member-small}
+use Rattle.rules.specs.Traversal.{movedPointer, named}
+use Rattle.rules.specs.Lookahead.{Ahead, lookingAhead, goesOn, reaches}
+use Rattle.rules.proofs.Lookahead.{reach-here, reach-fails, reach-on, on-covers, reach-enough}
 use Rattle.scheduler.proofs.lookahead.reaches.Statement.{statement}
 use Rattle.scheduler.proofs.lookahead.reaches.Tie as tie
 

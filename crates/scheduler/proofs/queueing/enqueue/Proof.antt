@@ -2,7 +2,10 @@
 -- Assumes nothing.
 use native.Mathlib.Omega.{arith}
 use borrow.Author.Needs.{needs}
-use Rattle.scheduler.specs.Queue.{headOf, lengthOf, place, enqueue}
+use lib.ListN.{getD}
+use Rattle.state.specs.Stored.{headOf, lengthOf, place}
+use Rattle.state.proofs.Rings.{of-class}
+use Rattle.rules.specs.Queue.{enqueue}
 use Rattle.scheduler.proofs.queueing.enqueue.Statement.{statement}
 use Rattle.scheduler.proofs.queueing.enqueue.Tie as tie
 
@@ -40,7 +43,10 @@ element-write-lengths c = search needs
 
 returns : tie.Need-returns
 unfolding enqueue headOf lengthOf
-returns c = rw (c .place .ensures)
+returns c =
+    let s = c .before .before .before in
+    let class = s .args .class in
+    rw (c .place .ensures, of-class class (getD (s .args .heads .now) class 0) (getD (s .args .lengths .now) class 0) (s .pre .0))
 
 pub enqueue-spec : {M : Type 1} → statement M
 enqueue-spec =

@@ -6,11 +6,11 @@ use Prim.Native.Nat.{ℕ, _<_}
 use borrow.Author.Needs.{needs}
 use borrow.Author.Tests.{lt-ltb, le-ltb}
 use lib.Dec.{eqb}
-use Rattle.policy.proofs.Truth.{not-true, not-not, on-true, on-false}
-use Rattle.scheduler.specs.Word.{classFits, bankAndKindFit, wordOf}
-use Rattle.scheduler.specs.Queue.{enqueue, offerStatus, queuesAfter}
-use Rattle.scheduler.specs.declared.Request.{Request}
-use Rattle.scheduler.specs.declared.Queues.{Queues}
+use Rattle.basics.proofs.Truth.{not-true, not-not, on-true, on-false}
+use Rattle.requests.specs.Word.{classFits, bankAndKindFit, wordOf}
+use Rattle.rules.specs.Queue.{enqueue, offerStatus, queuesAfter}
+use Rattle.requests.specs.declared.Request.{Request}
+use Rattle.state.specs.declared.Queues.{Queues}
 use Rattle.scheduler.proofs.queueing.offer.Statement.{statement}
 use Rattle.scheduler.proofs.queueing.offer.Tie as tie
 

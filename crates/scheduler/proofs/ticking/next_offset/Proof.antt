@@ -4,7 +4,7 @@ use mathlib.Core.Path.{sym, ap, _∙_}
 use Prim.Native.Nat.{ℕ, _+_, _<_}
 use native.Mathlib.Nat.{mod-lt}
 use native.Mathlib.Omega.{arith}
-use Rattle.scheduler.proofs.Calendar.{next-within, next-wraps}
+use Rattle.rules.proofs.Calendar.{next-within, next-wraps}
 use Rattle.scheduler.proofs.ticking.next_offset.Statement.{statement}
 use Rattle.scheduler.proofs.ticking.next_offset.Tie as tie
 

@@ -5,17 +5,17 @@ use mathlib.Core.List.{List}
 use Prim.Native.Nat.{ℕ, _+_, _<_}
 use borrow.Author.Needs.{needs}
 use Rattle.policy.proofs.Laws.{policy-laws}
-use Rattle.scheduler.specs.Word.{commandNumber}
-use Rattle.scheduler.specs.Wire.{dueAt}
-use Rattle.scheduler.specs.Step.{TurnStart, turnsAt, Driven, Bus, drive, answered}
-use Rattle.scheduler.specs.Call.{busAt, afterTick}
-use Rattle.scheduler.specs.Calls.{Answer}
-use Rattle.scheduler.specs.InPlace.{stateOf, flightOf, startOf}
-use Rattle.scheduler.specs.declared.Queues.{Queues}
-use Rattle.scheduler.specs.declared.Flight.{Flight}
-use Rattle.scheduler.specs.declared.State.{State}
-use Rattle.scheduler.proofs.Step.{turn-owner}
-use Rattle.scheduler.proofs.RangeLaws.{Ranged, ranged, BusRange, bus-range, ready}
+use Rattle.requests.specs.Word.{commandNumber}
+use Rattle.state.specs.Stored.{dueAt, flightOf}
+use Rattle.rules.specs.Step.{TurnStart, turnsAt, Driven, Bus, drive, answered}
+use Rattle.rules.specs.Call.{busAt, afterTick}
+use Rattle.rules.specs.Calls.{Answer}
+use Rattle.scheduler.specs.InPlace.{stateOf, startOf}
+use Rattle.state.specs.declared.Queues.{Queues}
+use Rattle.state.specs.declared.Flight.{Flight}
+use Rattle.state.specs.declared.State.{State}
+use Rattle.rules.proofs.Step.{turn-owner}
+use Rattle.rules.proofs.Range.{Ranged, ranged, BusRange, bus-range, ready}
 use Rattle.scheduler.proofs.ticking.tick_in_place.Statement.{statement}
 use Rattle.scheduler.proofs.ticking.tick_in_place.Tie as tie
 
@@ -103,8 +103,8 @@ drive-requires c κs =
     let s = start-turned at in
     (ready (s .args .p .classes) (bus at) (bus-fit at) (s .pre .1), s .pre .0 .in-step)
 
-answer-requires : tie.Need-answer-requires
-answer-requires c κs = search needs
+take-due-requires : tie.Need-take-due-requires
+take-due-requires c κs = search needs
 
 next-moment-requires : tie.Need-next-moment-requires
 next-moment-requires c κs =
@@ -117,7 +117,7 @@ returns c =
     let at = c .before .before .before in
     let s = start-driven at in
     let t = s .args .m .cycle in
-    let sent = c .before .answer .ensures in
+    let sent = c .before .take-due .ensures in
     let responded : Flight → List ℕ → Flight = λ f responses. record { columns = f .columns; responses = responses; banks = f .banks; last = f .last } in
     rw (c .next-moment .ensures) (
       same-answers t (s .args .m .classes)
@@ -132,4 +132,4 @@ returns c =
 pub tick-in-place-spec : {M : Type 1} → statement M
 tick-in-place-spec =
     tie.close
-    (tie.spec turns-at-requires drive-requires answer-requires next-moment-requires returns)
+    (tie.spec turns-at-requires drive-requires take-due-requires next-moment-requires returns)

@@ -9,12 +9,12 @@ use native.Mathlib.Omega.{arith}
 use borrow.Author.Needs.{needs}
 use lib.ListN.{length, getD, set, length-set}
 use lib.Seq.{getD-set-same}
-use Rattle.policy.specs.Mask.{nth}
-use Rattle.policy.specs.Order.{strictlyIn, aboveIn}
-use Rattle.policy.proofs.Below.{count-le}
-use Rattle.policy.proofs.Numbered as numbered
-use Rattle.scheduler.specs.Traversal.{candidates, moved, movedPointer, reachedAt, named, takes, Reached, endsAt, tryClass}
-use Rattle.scheduler.proofs.TraversalLaws.{moved-names, passes-on, try-takes, try-passes, falls as fewer-above, enough}
+use Rattle.order.specs.Mask.{nth}
+use Rattle.order.specs.Order.{strictlyIn, aboveIn}
+use Rattle.basics.proofs.Below.{count-le}
+use Rattle.order.proofs.Numbered as numbered
+use Rattle.rules.specs.Traversal.{candidates, moved, movedPointer, reachedAt, named, takes, Reached, endsAt, tryClass}
+use Rattle.rules.proofs.Traversal.{moved-names, passes-on, try-takes, try-passes, falls as fewer-above, enough}
 use borrow.Fn.Kinds.{In}
 use borrow.Fn.PlainCycle.{Measures, is, falls, and}
 use Rattle.scheduler.proofs.traversal.ascend.Reads as ascend
@@ -23,9 +23,9 @@ use Rattle.scheduler.proofs.traversal.+ascend+try_class.Lts-ascend as a
 use Rattle.scheduler.proofs.traversal.try_class.Reads as try-class
 use Rattle.scheduler.proofs.traversal.try_class.Kinds as try-class-kinds
 use Rattle.scheduler.proofs.traversal.+ascend+try_class.Lts-try_class as try-class-lts
-use Rattle.policy.proofs.mask.nth.Reads as nth-reads
-use Rattle.scheduler.proofs.traversal.moved.Reads as moved-reads
-use Rattle.scheduler.proofs.traversal.takes.Reads as takes-reads
+use Rattle.order.proofs.mask.nth.Reads as nth-reads
+use Rattle.decisions.proofs.moved.Reads as moved-reads
+use Rattle.decisions.proofs.takes.Reads as takes-reads
 use Rattle.scheduler.proofs.traversal.+ascend+try_class.{statement}
 use Rattle.scheduler.proofs.traversal.+ascend+try_class.Tie.{close}
 

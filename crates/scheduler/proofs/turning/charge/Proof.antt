@@ -1,7 +1,7 @@
 -- `scheduler::turning::charge` meets its contract: a difference of naturals does not fall below 0.
 -- Assumes nothing.
 use borrow.Author.Needs.{needs}
-use Rattle.scheduler.specs.Traversal.{charge}
+use Rattle.rules.specs.Traversal.{charge}
 use Rattle.scheduler.proofs.turning.charge.Statement.{statement}
 use Rattle.scheduler.proofs.turning.charge.Tie as tie
 

@@ -9,10 +9,10 @@ use borrow.Author.Needs.{needs}
 use borrow.Author.Tests.{eq-eqb, ne-eqb}
 use lib.Dec.{eqb}
 use Rattle.policy.proofs.Laws.{policy-laws}
-use Rattle.scheduler.specs.Traversal.{firstClass}
-use Rattle.scheduler.specs.Climb.{Climbs}
-use Rattle.scheduler.specs.Lookahead.{lookingAhead, reaches, nextLeft, elides}
-use Rattle.scheduler.proofs.TraversalLaws.{first-small}
+use Rattle.rules.specs.Traversal.{firstClass}
+use Rattle.rules.specs.Climb.{Climbs}
+use Rattle.rules.specs.Lookahead.{lookingAhead, reaches, nextLeft, elides}
+use Rattle.rules.proofs.Traversal.{first-small}
 use Rattle.scheduler.proofs.InPlace.{climbs-lent}
 use Rattle.scheduler.proofs.turning.elides.Statement.{statement}
 use Rattle.scheduler.proofs.turning.elides.Tie as tie

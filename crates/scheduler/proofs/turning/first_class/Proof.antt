@@ -1,6 +1,6 @@
 -- `scheduler::turning::first_class` meets its contract: every turn starts at the least class.
 -- Assumes nothing.
-use Rattle.scheduler.specs.Traversal.{firstClass}
+use Rattle.rules.specs.Traversal.{firstClass}
 use Rattle.scheduler.proofs.turning.first_class.Statement.{statement}
 use Rattle.scheduler.proofs.turning.first_class.Tie as tie
 

@@ -3,7 +3,7 @@
 use native.Mathlib.Omega.{arith}
 use borrow.Author.Tests.{eq-eqb, ne-eqb}
 use Rattle.policy.proofs.Laws.{policy-laws}
-use Rattle.scheduler.specs.Step.{leftAtStart}
+use Rattle.rules.specs.Step.{leftAtStart}
 use Rattle.scheduler.proofs.turning.left_at_start.Statement.{statement}
 use Rattle.scheduler.proofs.turning.left_at_start.Tie as tie
 

@@ -3,12 +3,14 @@
 use mathlib.Core.Path.{_≡_, sym, ap, ap₂, _∙_, subst}
 use mathlib.Core.Bool.{Bool}
 use mathlib.Core.List.{List}
-use Prim.Native.Nat.{ℕ, _<_}
-use Rattle.scheduler.specs.Traversal.{firstClass, candidates, Reached, tryClass, charge}
-use Rattle.scheduler.specs.Lookahead.{elides}
-use Rattle.scheduler.specs.Step.{leftAtStart, turnWord, TurnStart, ownedBy, startTurn}
-use Rattle.scheduler.specs.InPlace.{turnsOf}
-use Rattle.scheduler.proofs.TraversalLaws.{owner-small, climbs, first-small}
+use Prim.Native.Nat.{ℕ, _%_, _<_}
+use native.Mathlib.Omega.{arith}
+use borrow.Author.Needs.{needs}
+use Rattle.rules.specs.Traversal.{firstClass, candidates, Reached, tryClass, charge}
+use Rattle.rules.specs.Lookahead.{elides}
+use Rattle.rules.specs.Step.{leftAtStart, turnWord, TurnStart, ownedBy, startTurn}
+use Rattle.state.specs.Stored.{turnsOf}
+use Rattle.rules.proofs.Traversal.{owner-small, climbs, first-small}
 use Rattle.scheduler.proofs.InPlace.{climbs-lent}
 use Rattle.scheduler.proofs.turning.start_turn.Statement.{statement}
 use Rattle.scheduler.proofs.turning.start_turn.Tie as tie
@@ -70,7 +72,7 @@ elides-requires : tie.Need-elides-requires
 elides-requires c κs = let s = at-start (c .before .before .before .before) in (s .pre .0, s .pre .1)
 
 turn-word-requires : tie.Need-turn-word-requires
-turn-word-requires c κs = owner-here (c .before .before .before .before .before)
+turn-word-requires c κs = search needs
 
 returns : tie.Need-returns
 unfolding ownedBy startTurn
@@ -81,10 +83,11 @@ returns c =
     let p = s .args .p in
     let number = s .args .number in
     let owner = tried .try-class .result in
+    let owner-is : owner % 16 ≡ owner = omega (arith, owner-here tried) in
     let pointers = tried .try-class .last .1 .1 .1 .1 .0 in
     let left : charged .charge .last .0 ≡ charge (full s) owner = charged .charge .ensures ∙ ap (λ (l : List ℕ). charge l owner) (at-first tried .before .left-at-start .ensures) in
     let elided : c .before .elides .result ≡ elides p number (charge (full s) owner) pointers owner = c .before .elides .ensures ∙ ap (λ (l : List ℕ). elides p number l pointers owner) left in
-    let shown : c .turn-word .result ≡ turnWord owner (c .before .elides .result) = c .turn-word .ensures in
+    let shown : c .turn-word .result ≡ turnWord owner (c .before .elides .result) = c .turn-word .ensures ∙ ap (λ (o : ℕ). turnWord o (c .before .elides .result)) owner-is in
     let one : made owner (c .before .elides .result) (charged .charge .last .0) pointers (c .turn-word .result) ≡ ownedBy p number (full s) (reached tried) =
     ap (made owner (c .before .elides .result) (charged .charge .last .0) pointers) shown
     ∙ ap₂ (λ (b : Bool) (l : List ℕ). made owner b l pointers (turnWord owner b)) elided left

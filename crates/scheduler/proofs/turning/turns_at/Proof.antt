@@ -5,9 +5,9 @@ use mathlib.Core.Bool.{true, false}
 use native.Mathlib.Omega.{arith}
 use native.Mathlib.Nat.{div-le-self}
 use borrow.Author.Tests.{eq-eqb, ne-eqb}
-use Rattle.policy.proofs.Truth.{on-true, on-false}
+use Rattle.basics.proofs.Truth.{on-true, on-false}
 use Rattle.policy.proofs.Laws.{policy-laws}
-use Rattle.scheduler.specs.Step.{turnStarts, turnNumber, turnsAt}
+use Rattle.rules.specs.Step.{turnStarts, turnNumber, turnsAt}
 use Rattle.scheduler.proofs.turning.turns_at.Statement.{statement}
 use Rattle.scheduler.proofs.turning.turns_at.Tie as tie
 

@@ -1,0 +1,66 @@
+-- `cases::change::policy_for` ends: the place rises to 158 or more.
+-- Assumes nothing.
+use Prim.Native.Nat.{_-_, _≤_}
+use borrow.Author.Needs.{needs}
+use Rattle.cases.proofs.change.policy_for.Statement.{statement}
+use Rattle.cases.proofs.change.policy_for.Tie as tie
+use Rattle.cases.proofs.change.policy_with.Reads as policy-with-reads
+use Rattle.cases.proofs.script.letter_at.Reads as letter-at-reads
+use Rattle.cases.proofs.script.number_at.Reads as number-at-reads
+
+abbrev Inv-loop : tie.InvT-loop
+Inv-loop list from changed₀ at₀ changed at = 0 ≤ at
+
+abbrev μ-loop : tie.MeasureT-loop
+μ-loop list from changed₀ at₀ changed at = 160 - at
+
+loop-holds : tie.Need-loop-holds Inv-loop μ-loop
+loop-holds c = search needs
+
+letter-at-requires : tie.Need-letter-at-requires Inv-loop μ-loop
+letter-at-requires c κs = search needs
+
+add-number-at : tie.Need-add-number-at Inv-loop μ-loop
+add-number-at c = search needs
+
+number-at-requires : tie.Need-number-at-requires Inv-loop μ-loop
+number-at-requires c κs = search needs
+
+add-number-at-2 : tie.Need-add-number-at-2 Inv-loop μ-loop
+add-number-at-2 c = search needs
+
+number-at-requires-2 : tie.Need-number-at-requires-2 Inv-loop μ-loop
+number-at-requires-2 c κs = search needs
+
+policy-with-requires : tie.Need-policy-with-requires Inv-loop μ-loop
+policy-with-requires c κs = search needs
+
+add-at : tie.Need-add-at Inv-loop μ-loop
+add-at c = search needs
+
+loop-less : tie.Need-loop-less Inv-loop μ-loop
+loop-less c = search needs
+
+loop-again : tie.Need-loop-again Inv-loop μ-loop
+loop-again c = search needs
+
+returns : tie.Need-returns Inv-loop μ-loop
+returns c = search needs
+
+pub policy-for-spec : {M : Type 1} → statement M
+policy-for-spec =
+    tie.close
+    (tie.spec
+    Inv-loop
+    μ-loop
+    loop-holds
+    letter-at-requires
+    add-number-at
+    number-at-requires
+    add-number-at-2
+    number-at-requires-2
+    policy-with-requires
+    add-at
+    loop-less
+    loop-again
+    returns)

@@ -1,0 +1,64 @@
+-- `cases::script::numbers` ends: the place rises to the line's end.
+-- Assumes nothing.
+use Prim.Native.Nat.{_-_, _≤_}
+use borrow.Author.Needs.{needs}
+use Rattle.cases.proofs.script.numbers.Statement.{statement}
+use Rattle.cases.proofs.script.numbers.Tie as tie
+use Rattle.cases.proofs.script.byte.Reads as byte-reads
+use Rattle.cases.proofs.script.empty.Reads as empty-reads
+use Rattle.cases.proofs.script.find.Reads as find-reads
+use Rattle.cases.proofs.script.token_after.Reads as token-after-reads
+use Rattle.cases.proofs.script.with_token.Reads as with-token-reads
+
+abbrev Inv-loop : tie.InvT-loop
+Inv-loop text from end list₀ token₀ at₀ list token at = 0 ≤ at
+
+abbrev μ-loop : tie.MeasureT-loop
+μ-loop text from end list₀ token₀ at₀ list token at = end - at
+
+find-requires : tie.Need-find-requires Inv-loop μ-loop
+find-requires c κs = search needs
+
+empty-requires : tie.Need-empty-requires Inv-loop μ-loop
+empty-requires c κs = search needs
+
+loop-holds : tie.Need-loop-holds Inv-loop μ-loop
+loop-holds c = search needs
+
+add-at : tie.Need-add-at Inv-loop μ-loop
+add-at c = search needs
+
+byte-requires : tie.Need-byte-requires Inv-loop μ-loop
+byte-requires c κs = search needs
+
+token-after-requires : tie.Need-token-after-requires Inv-loop μ-loop
+token-after-requires c κs = search needs
+
+with-token-requires : tie.Need-with-token-requires Inv-loop μ-loop
+with-token-requires c κs = search needs
+
+loop-less : tie.Need-loop-less Inv-loop μ-loop
+loop-less c = search needs
+
+loop-again : tie.Need-loop-again Inv-loop μ-loop
+loop-again c = search needs
+
+returns : tie.Need-returns Inv-loop μ-loop
+returns c = search needs
+
+pub numbers-spec : {M : Type 1} → statement M
+numbers-spec =
+    tie.close
+    (tie.spec
+    Inv-loop
+    μ-loop
+    find-requires
+    empty-requires
+    loop-holds
+    add-at
+    byte-requires
+    token-after-requires
+    with-token-requires
+    loop-less
+    loop-again
+    returns)

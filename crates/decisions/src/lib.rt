@@ -1,0 +1,68 @@
+// What is decided on single numbers: where a class's pointer moves and whether the class takes the turn, what a turn costs and how it is
+// shown, and whether the gaps are met.
+
+ghost use mathlib.Core.Path.{_≡_};
+ghost use Prim.Native.Nat.{_-_, _%_};
+ghost use Rattle.rules.specs.Traversal.{moved, takesBy};
+ghost use Rattle.rules.specs.Wire.{gapMet, gapsMetBy};
+ghost use Rattle.rules.specs.Step.{turnWord};
+use policy::Timing;
+use state::stored;
+
+// The round-robin pointer, moved on by 1: from the number of covers back to 1, and 0 where there are none.
+pub fn moved(covers: u16, pointer: usize) -> usize
+    ensures { λ r. ⌜ r ≡ moved covers pointer ⌝ }
+{
+    if covers == 0 {
+        return 0;
+    }
+    if pointer < order::mask::size(covers) {
+        pointer + 1
+    } else {
+        1
+    }
+}
+
+// A class takes the turn if it has a request waiting and turns left, or if nothing is above it, so that it has no cover.
+pub fn takes(covers: u16, length: usize, left: u32) -> bool
+    ensures { λ r. ⌜ r ≡ takesBy covers length left ⌝ }
+{
+    (length != 0) & (left != 0) | (covers == 0)
+}
+
+// The turns left after one more, not below 0.
+pub fn one_less(left: u32) -> u32
+    ensures { λ r. ⌜ r ≡ left - 1 ⌝ }
+{
+    if left == 0 { 0 } else { left - 1 }
+}
+
+// A started turn's number in the log: 1 and the owner, and 256 more if its dead time is elided. An owner is below 16; another number, of which document 01 says nothing,
+// counts as what it is modulo 16.
+pub fn turn_word(owner: usize, elided: bool) -> u32
+    ensures { λ r. ⌜ r ≡ turnWord (owner % 16) elided ⌝ }
+{
+    let number = (owner % 16) as u32;
+    if elided {
+        1 + number + 256
+    } else {
+        1 + number + 0
+    }
+}
+
+// A gap is met from so many cycles after the last activate on, and where there was none.
+pub fn gap_met(last: u32, gap: u32, cycle: u32) -> bool
+    ensures { λ r. ⌜ r ≡ gapMet last gap cycle ⌝ }
+{
+    (last == 0) | (stored::activate_next(last) as u64 + gap as u64 <= cycle as u64 + 1)
+}
+
+// All gaps are met: from the last activate of all, by the two kinds, and from that of the bank, by its kind. A kind is 0 or 1; another
+// number, of which document 01 says nothing, counts as what it is modulo 2.
+pub fn gaps_met(timing: Timing, last: u32, of_bank: u32, kind: u32, cycle: u32) -> bool
+    ensures { λ r. ⌜ r ≡ gapsMetBy timing last «of_bank» (kind % 2) cycle ⌝ }
+{
+    let after = (2 * stored::activate_kind(last) + kind % 2) as usize;
+    let same = stored::activate_kind(of_bank) as usize;
+    gap_met(last, timing.gaps[after], cycle) & gap_met(of_bank, timing.bank[same], cycle)
+}

@@ -1,0 +1,11 @@
+-- `policy::mask::without` meets its contract: the part is added and then taken away.
+-- Assumes nothing.
+use Rattle.order.proofs.Masks.{without-is}
+use Rattle.order.proofs.mask.without.Statement.{statement}
+use Rattle.order.proofs.mask.without.Tie as tie
+
+returns : tie.Need-returns
+returns c = without-is (c .args .set) (c .args .part) (c .fits .set .fits) (c .fits .part .fits)
+
+pub without-spec : {M : Type 1} → statement M
+without-spec = tie.close (tie.spec returns)

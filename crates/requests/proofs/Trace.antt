@@ -1,0 +1,47 @@
+-- A trace word told apart: the three sides of its definition, by the tests that pick them, and that an offer's word is the one that it came as.
+-- Assumes nothing.
+use mathlib.Core.Path.{_≡_, sym, ap, _∙_}
+use mathlib.Core.Logic.{⊎-elim}
+use mathlib.Core.Bool.{true, false}
+use Prim.Native.Nat.{ℕ}
+use lib.Dec.{eqb}
+use Rattle.basics.proofs.Truth.{either, on-true, on-false}
+use Rattle.requests.specs.Word.{isOffer, requestOf, wordOf}
+use Rattle.requests.specs.Trace.{callOf}
+use Rattle.requests.specs.declared.Request.{Request}
+use Rattle.requests.specs.declared.Call.{Call}
+use Rattle.requests.specs.declared.Call.the-variants.{Tick, Offer, Malformed}
+use Rattle.requests.proofs.Word.{word-back}
+
+pub told-tick : (w : ℕ) → eqb w 0 ≡ true → callOf w ≡ Tick
+unfolding callOf
+told-tick w e = on-true (eqb w 0) Tick _ e
+
+pub told-offer : (w : ℕ) → eqb w 0 ≡ false → isOffer w ≡ true → callOf w ≡ Offer (requestOf w)
+unfolding callOf
+told-offer w e t = on-false (eqb w 0) Tick _ e ∙ on-true (isOffer w) (Offer (requestOf w)) Malformed t
+
+pub told-malformed : (w : ℕ) → eqb w 0 ≡ false → isOffer w ≡ false → callOf w ≡ Malformed
+unfolding callOf
+told-malformed w e f = on-false (eqb w 0) Tick _ e ∙ on-false (isOffer w) (Offer (requestOf w)) Malformed f
+
+-- ---- a word that is an offer's
+
+-- the word of an offer, and of any other call the one that is given
+word-in : Call → ℕ → ℕ
+word-in Tick w = w
+word-in (Offer r) w = wordOf r
+word-in Malformed w = w
+
+word-kept : (w : ℕ) → word-in (callOf w) w ≡ w
+unfolding word-in
+word-kept w =
+    let told : Call → ℕ = λ c. word-in c w in
+    ⊎-elim
+    (λ tick. ap told (told-tick w tick))
+    (λ other. ⊎-elim (λ i. ap told (told-offer w other i) ∙ word-back w i) (λ i. ap told (told-malformed w other i)) (either (isOffer w)))
+    (either (eqb w 0))
+
+pub offer-word : (w : ℕ) (r : Request) → callOf w ≡ Offer r → w ≡ wordOf r
+unfolding word-in
+offer-word w r e = sym (word-kept w) ∙ ap (λ (c : Call). word-in c w) e

@@ -1,0 +1,65 @@
+-- Requests and their words: "An offer has bit 31 set, class in bits 24 to 28, kind in 20 and 21 (0 read, 1 write), bank in 16 to 19 (0 to 7), tag in 0 to 15,
+-- other bits 0." A request is stored by its word, and 0 is none.
+use mathlib.Core.Bool.{Bool, true, false, _&&_}
+use Prim.Native.Nat.{ℕ, _+_, _*_, _/_, _%_, min}
+use lib.Dec.{leb, eqb}
+use Rattle.order.specs.Order.{isClassIn}
+use Rattle.requests.specs.declared.Request.{Request}
+use Rattle.requests.specs.declared.Wires.{Wires}
+use Rattle.requests.specs.declared.Wires.the-variants.{Nothing, Activate, Column}
+
+-- ---- the fields of a word
+
+unfoldable pub classOf : ℕ → ℕ
+classOf w = w / 16777216 % 32
+
+unfoldable pub kindOf : ℕ → ℕ
+kindOf w = w / 1048576 % 4
+
+unfoldable pub bankOf : ℕ → ℕ
+bankOf w = w / 65536 % 16
+
+unfoldable pub tagOf : ℕ → ℕ
+tagOf w = w % 65536
+
+-- the word has the form of an offer: bit 31 set, and bits 22, 23, 29 and 30 not
+unfoldable pub isOffer : ℕ → Bool
+isOffer w = eqb (w / 536870912) 4 && eqb (w / 4194304 % 4) 0
+
+unfoldable pub requestOf : ℕ → Request
+requestOf w = record { class = classOf w; kind = kindOf w; bank = bankOf w; tag = tagOf w }
+
+-- the word of a request. Of a number too large for its field, which document 01 leaves open, the largest of the field is taken: 9 or 10 refuses the word as it refuses the
+-- request, so that every offer is the call of one trace number. No tag is too large, since its type has 16 bits; numbers here have no width, and with one rule for all
+-- four fields an offer is the call of its word without a premise.
+unfoldable pub wordOf : Request → ℕ
+wordOf r = 2147483648 + min (r .class) 31 * 16777216 + min (r .kind) 3 * 1048576 + min (r .bank) 15 * 65536 + min (r .tag) 65535
+
+-- ---- what 9 and 10 refuse
+
+-- 9: "class not below n"
+unfoldable pub classFits : ℕ → Request → Bool
+classFits n r = isClassIn n (r .class)
+
+-- 10: "bank above 7 or kind above 1"
+unfoldable pub bankAndKindFit : Request → Bool
+bankAndKindFit r = leb (r .bank) 7 && leb (r .kind) 1
+
+-- a stored word is that of a request which 9 and 10 do not refuse
+unfoldable pub soundWord : ℕ → ℕ → Bool
+soundWord n w = isOffer w && classFits n (requestOf w) && bankAndKindFit (requestOf w)
+
+-- ---- what a record's parts are in the log
+
+-- "A command or answer is the offer's word, with bit 30 set for a column command; 0 is none."
+unfoldable pub columnNumber : ℕ → ℕ
+columnNumber w = w + 1073741824
+
+unfoldable pub commandNumber : Wires → ℕ
+commandNumber Nothing = 0
+commandNumber (Activate r) = wordOf r
+commandNumber (Column r) = columnNumber (wordOf r)
+
+-- and back: the wires that a command's number says
+unfoldable pub wiresOf : ℕ → Wires
+wiresOf k = elim (eqb k 0) [ true ↦ Nothing | false ↦ elim (isOffer k) [ true ↦ Activate (requestOf k) | false ↦ Column (requestOf k) ] ]

@@ -1,0 +1,122 @@
+// A request's word and back, and the numbers of a record's parts in the log.
+
+ghost use mathlib.Core.Path.{_≡_};
+ghost use Prim.Native.Nat.{min};
+ghost use Rattle.requests.specs.Word.{classOf, kindOf, bankOf, tagOf, requestOf, wordOf, isOffer, classFits, bankAndKindFit, soundWord, commandNumber, wiresOf};
+use super::Request;
+use super::Wires;
+
+// A column command's number in the log is the request's word with bit 30 set: so much more.
+pub const COLUMN: u32 = 1073741824;
+
+// The fields of a word. Where they lie stands here alone. Of a word that is no offer's, which document 01 leaves open, they are what stands in those bits.
+
+pub fn class_of(word: u32) -> u32
+    ensures { λ r. ⌜ r ≡ classOf word ⌝ }
+{
+    word / 16777216 % 32
+}
+
+pub fn kind_of(word: u32) -> u32
+    ensures { λ r. ⌜ r ≡ kindOf word ⌝ }
+{
+    word / 1048576 % 4
+}
+
+pub fn bank_of(word: u32) -> u32
+    ensures { λ r. ⌜ r ≡ bankOf word ⌝ }
+{
+    word / 65536 % 16
+}
+
+fn tag_of(word: u32) -> u16
+    ensures { λ r. ⌜ r ≡ tagOf word ⌝ }
+{
+    (word % 65536) as u16
+}
+
+// The request that a word names by its fields, whatever its other bits are: of a word that is no offer's, which document 01 leaves open, what stands in those bits.
+pub fn request_of(word: u32) -> Request
+    ensures { λ r. ⌜ r ≡ requestOf word ⌝ }
+{
+    Request {
+        class: class_of(word),
+        kind: kind_of(word),
+        bank: bank_of(word),
+        tag: tag_of(word),
+    }
+}
+
+// A number, or the largest of its field where it is larger.
+fn at_most(x: u32, most: u32) -> u32
+    ensures { λ r. ⌜ r ≡ min x most ⌝ }
+{
+    if x < most { x } else { most }
+}
+
+// The word of a request. Of a number too large for its field, which document 01 leaves open, the largest of the field is taken: 9 or 10 refuses the word as it refuses
+// the request.
+pub fn word_of(r: Request) -> u32
+    ensures { λ w. ⌜ w ≡ wordOf r ⌝ }
+{
+    2147483648
+        + at_most(r.class, 31) * 16777216
+        + at_most(r.kind, 3) * 1048576
+        + at_most(r.bank, 15) * 65536
+        + (r.tag as u32)
+}
+
+// Whether a word has the form of an offer.
+pub fn is_offer(word: u32) -> bool
+    ensures { λ r. ⌜ r ≡ isOffer word ⌝ }
+{
+    (word / 536870912 == 4) & (word / 4194304 % 4 == 0)
+}
+
+// 9: the class is below the class count.
+pub fn class_fits(classes: usize, r: Request) -> bool
+    ensures { λ b. ⌜ b ≡ classFits classes r ⌝ }
+{
+    order::is_class(classes, r.class as usize)
+}
+
+// 10: bank and kind are in range.
+pub fn bank_and_kind_fit(r: Request) -> bool
+    ensures { λ b. ⌜ b ≡ bankAndKindFit r ⌝ }
+{
+    (r.bank <= 7) & (r.kind <= 1)
+}
+
+// Whether a stored word is that of a request which 9 and 10 do not refuse.
+pub fn sound_word(classes: usize, word: u32) -> bool
+    ensures { λ r. ⌜ r ≡ soundWord classes word ⌝ }
+{
+    let r = request_of(word);
+    is_offer(word) & class_fits(classes, r) & bank_and_kind_fit(r)
+}
+
+// The command's number in the log: the request's word, with bit 30 set for a column command, and 0 for none. Of a request with a number too large for its field, which
+// document 01 leaves open, it is the word that `word_of` gives.
+pub fn command_number(wires: Wires) -> u32
+    ensures { λ r. ⌜ r ≡ commandNumber wires ⌝ }
+{
+    match wires {
+        Wires::Nothing => 0,
+        Wires::Activate(r) => word_of(r),
+        Wires::Column(r) => word_of(r) + COLUMN,
+    }
+}
+
+// The wires that a command's number says.
+pub fn wires_of(command: u32) -> Wires
+    ensures { λ r. ⌜ r ≡ wiresOf command ⌝ }
+{
+    if command == 0 {
+        return Wires::Nothing;
+    }
+    let r = request_of(command);
+    if is_offer(command) {
+        return Wires::Activate(r);
+    }
+    Wires::Column(r)
+}

@@ -1,0 +1,35 @@
+-- The laws of `specs/Laws.antt` hold of every policy in range.
+-- Assumes nothing.
+use mathlib.Core.Path.{_≡_}
+use mathlib.Core.Bool.{true}
+use Rattle.policy.specs.Policy.{inRange}
+use Rattle.policy.specs.declared.Policy.{Policy}
+use Rattle.rules.specs.Laws.{SchedulerLaws}
+use Rattle.requests.proofs.Word.{word-back, request-back}
+use Rattle.rules.proofs.SingleCalls.{tick-called, offer-called, too-large}
+use Rattle.rules.proofs.Queue as waiting
+use Rattle.rules.proofs.Range.{ranged}
+use Rattle.rules.proofs.Traversal.{ascends}
+use Rattle.rules.proofs.Lookahead.{elision}
+use Rattle.rules.proofs.CallsKept.{fresh-in-range, offer-in-range, tick-in-range}
+use Rattle.rules.proofs.History.{held}
+
+pub scheduler-laws : (p : Policy) → inRange p ≡ true → SchedulerLaws p
+scheduler-laws p given =
+    record {
+      words = record { word-back = word-back; request-back = request-back };
+      singly = record { tick-called = tick-called; offer-called = offer-called; too-large = too-large };
+      queueing =
+          λ s e c l.
+          let q = ranged p s e .queues in
+          record {
+            at-end = waiting.enqueue-end (s .queues) c l (q .slots-long) (q .heads-long) (q .lengths-long);
+            from-front = waiting.dequeue-first (s .queues) c l (q .slots-long) (q .heads-long) (q .lengths-long);
+            enqueue-beside = λ d w apart. waiting.enqueue-beside (s .queues) c d apart w;
+            dequeue-beside = λ d apart. waiting.dequeue-beside (s .queues) c d apart;
+          };
+      keeping = record { fresh-in-range = fresh-in-range p given; offer-in-range = offer-in-range p; tick-in-range = tick-in-range p };
+      ascending = ascends p given;
+      eliding = elision p given;
+      reached = held p given;
+    }

@@ -1,0 +1,324 @@
+-- What 13 asks of a state, part by part: what the test says of the queues, the turns and what is in flight, and that these parts make it pass.
+-- Each part is the clauses of one test, so both ways are the same list read forth and back.
+-- Assumes nothing.
+use mathlib.Core.Path.{_≡_, sym, ap, _∙_, subst}
+use mathlib.Core.Logic.{inl, inr, ⊎-elim}
+use mathlib.Core.Bool.{Bool, true, _&&_, _||_}
+use mathlib.Core.List.{List}
+use Prim.Native.Nat.{ℕ, _+_, _≤_, _<_}
+use native.Mathlib.Nat.{lt-of-lt-of-le}
+use native.Mathlib.Omega.{arith}
+use borrow.Author.Tests.{eqb-true, eq-eqb, leb-true, le-leb, lt-leb, ltb-true, lt-ltb}
+use lib.Dec.{leb, ltb, eqb, lit<}
+use lib.ListN.{length, getD}
+use Rattle.policy.specs.Laws.{TimingLaws}
+use Rattle.order.specs.Laws.{SmallClasses}
+use Rattle.policy.specs.Policy.{isClass, coverCount, cap}
+use Rattle.policy.specs.Policy.{inRange as policyInRange}
+use Rattle.policy.specs.declared.Timing.{Timing}
+use Rattle.policy.specs.declared.Policy.{Policy}
+use Rattle.basics.proofs.Truth.{not-both, and-left, and-right, and-three, and-both, or-left, or-right, or-cases}
+use Rattle.basics.proofs.Below.{lt-or-ge, every-at, every-all}
+use Rattle.policy.proofs.Laws.{policy-laws}
+use Rattle.requests.specs.Word.{classOf, kindOf, bankOf, requestOf, isOffer, classFits, bankAndKindFit, soundWord}
+use Rattle.state.specs.Stored.{headOf, lengthOf, place, waitingAt, dueAt}
+use Rattle.rules.specs.Wire.{offsetAllows, gapsMet}
+use Rattle.state.specs.Range.{rightWord, ringInRange, queueInRange, turnsInRange, activateInRange, pendingInRange, countsInRange, flightInRange, shaped, stateInRange, inRange}
+use Rattle.rules.specs.History.{Each, Activates}
+use Rattle.rules.specs.Ready.{Ready}
+use Rattle.requests.specs.Sizes.{lastCycle}
+use Rattle.rules.specs.Step.{Bus, dueColumn, goesAt, going, canActivate}
+use Rattle.rules.specs.Call.{busAt}
+use Rattle.state.specs.declared.Queues.{Queues}
+use Rattle.state.specs.declared.Turns.{Turns}
+use Rattle.state.specs.declared.Flight.{Flight}
+use Rattle.state.specs.declared.State.{State}
+use Rattle.rules.proofs.Wire.{Before, before, before-back}
+
+-- two tests that pass together
+both : {a b : Bool} → (a && b) ≡ true → (a ≡ true) × (b ≡ true)
+both {a} {b} e = (and-left a b e, and-right a b e)
+
+-- ---- words
+
+-- a sound word is an offer, and has a bank and a kind
+pub sound-offer : (n w : ℕ) → soundWord n w ≡ true → isOffer w ≡ true
+unfolding soundWord
+sound-offer n w e = and-three (isOffer w) (classFits n (requestOf w)) (bankAndKindFit (requestOf w)) e .0
+
+pub sound-bank : (n w : ℕ) → soundWord n w ≡ true → bankOf w < 8
+unfolding soundWord bankAndKindFit requestOf
+sound-bank n w e =
+    let fit = and-right (isOffer w && classFits n (requestOf w)) (bankAndKindFit (requestOf w)) e in
+    omega (arith, leb-true (bankOf w) 7 (and-left (leb (bankOf w) 7) (leb (kindOf w) 1) fit))
+
+pub sound-kind : (n w : ℕ) → soundWord n w ≡ true → kindOf w < 2
+unfolding soundWord bankAndKindFit requestOf
+sound-kind n w e =
+    let fit = and-right (isOffer w && classFits n (requestOf w)) (bankAndKindFit (requestOf w)) e in
+    omega (arith, leb-true (kindOf w) 1 (and-right (leb (bankOf w) 7) (leb (kindOf w) 1) fit))
+
+-- a word that is right for a class's queue is sound, and of that class
+pub right-sound : (n c w : ℕ) → rightWord n c w ≡ true → soundWord n w ≡ true
+unfolding rightWord
+right-sound n c w e = and-left (soundWord n w) (eqb (classOf w) c) e
+
+pub right-class : (n c w : ℕ) → rightWord n c w ≡ true → classOf w ≡ c
+unfolding rightWord
+right-class n c w e = eqb-true (classOf w) c (and-right (soundWord n w) (eqb (classOf w) c) e)
+
+-- ---- the parts
+
+-- a class's queue
+pub record QueueRange (n : ℕ) (q : Queues) (c : ℕ) : Type 0 where
+  pub short : lengthOf q c ≤ 8
+  pub in-ring : headOf q c < 8
+  pub right : (k : ℕ) → k < lengthOf q c → rightWord n c (waitingAt q c k) ≡ true
+
+pub record QueuesRange (n : ℕ) (q : Queues) : Type 0 where
+  pub slots-long : length (q .slots) ≡ 128
+  pub heads-long : length (q .heads) ≡ 16
+  pub lengths-long : length (q .lengths) ≡ 16
+  pub queue : (c : ℕ) → c < 16 → QueueRange n q c
+
+-- sixteen numbers, each within its bound
+pub record Within (bound : ℕ → ℕ) (l : List ℕ) : Type 0 where
+  pub sixteen : length l ≡ 16
+  pub within : (j : ℕ) → j < 16 → getD l j 0 ≤ bound j
+
+pub record TurnsRange (p : Policy) (turns : Turns) : Type 0 where
+  pub owner-class : isClass p (turns .owner) ≡ true
+  pub left-within : Within (cap p) (turns .left)
+  pub pointers-fit : Within (coverCount p) (turns .pointers)
+
+-- a pending word: it is sound, and due fewer than so many cycles on
+abbrev pub Fits : ℕ → ℕ → ℕ → ℕ → Type 0
+Fits n bound d w = (d < bound) × (soundWord n w ≡ true)
+
+pub record FlightRange (n : ℕ) (timing : Timing) (t : ℕ) (f : Flight) : Type 0 where
+  pub columns-long : length (f .columns) ≡ 32
+  pub responses-long : length (f .responses) ≡ 32
+  pub banks-long : length (f .banks) ≡ 8
+  pub activates-before : Activates (Before t) f
+  pub columns-due : Each (Fits n (timing .column)) t (f .columns)
+  pub responses-due : Each (Fits n (timing .response)) t (f .responses)
+
+pub record Ranged (p : Policy) (s : State) : Type 0 where
+  pub fit : policyInRange p ≡ true
+  pub same-count : s .classes ≡ p .classes
+  pub cycle-bound : s .cycle ≤ lastCycle
+  pub queues : QueuesRange (p .classes) (s .queues)
+  pub turns : TurnsRange p (s .turns)
+  pub flight : FlightRange (p .classes) (p .timing) (s .cycle) (s .flight)
+
+-- ---- a class's queue, both ways
+
+module _ (n : ℕ) (q : Queues) (c : ℕ) where
+  abbrev right-or-past : ℕ → Bool
+  right-or-past k = leb (lengthOf q c) k || rightWord n c (getD (q .slots) (place c (headOf q c) k) 0)
+
+  queue-range : queueInRange n q c ≡ true → QueueRange n q c
+  unfolding queueInRange ringInRange waitingAt
+  queue-range e =
+      let words = both e in
+      let ring = both (words .0) in
+      let short = leb-true (lengthOf q c) 8 (ring .0) in
+      record {
+        short = short;
+        in-ring = ltb-true (headOf q c) 8 (ring .1);
+        right =
+            λ k l.
+            ⊎-elim (λ t. absurd (not-both t (lt-leb (lengthOf q c) k l))) (λ t. t)
+            (or-cases (leb (lengthOf q c) k) (rightWord n c (getD (q .slots) (place c (headOf q c) k) 0)) (every-at right-or-past 8 (words .1) k (lt-of-lt-of-le l short)));
+      }
+
+  queue-back : QueueRange n q c → queueInRange n q c ≡ true
+  unfolding queueInRange ringInRange waitingAt
+  queue-back r =
+      and-both (and-both (le-leb (lengthOf q c) 8 (r .short)) (lt-ltb (headOf q c) 8 (r .in-ring)))
+      (every-all right-or-past 8
+      (λ k l.
+      ⊎-elim
+      (λ h. or-right (leb (lengthOf q c) k) (rightWord n c (getD (q .slots) (place c (headOf q c) k) 0)) (r .right k h))
+      (λ h. or-left (leb (lengthOf q c) k) (rightWord n c (getD (q .slots) (place c (headOf q c) k) 0)) (le-leb (lengthOf q c) k h))
+      (lt-or-ge k (lengthOf q c))))
+
+-- ---- a class's pointer and turns left, both ways
+
+module _ (p : Policy) (turns : Turns) (c : ℕ) where
+  abbrev turn-within : Type 0
+  turn-within = (getD (turns .pointers) c 0 ≤ coverCount p c) × (getD (turns .left) c 0 ≤ cap p c)
+
+  turn-range : turnsInRange p turns c ≡ true → turn-within
+  unfolding turnsInRange
+  turn-range e = let h = both e in (leb-true (getD (turns .pointers) c 0) (coverCount p c) (h .0), leb-true (getD (turns .left) c 0) (cap p c) (h .1))
+
+  turn-back : turn-within → turnsInRange p turns c ≡ true
+  unfolding turnsInRange
+  turn-back h = and-both (le-leb (getD (turns .pointers) c 0) (coverCount p c) (h .0)) (le-leb (getD (turns .left) c 0) (cap p c) (h .1))
+
+-- ---- what is pending, both ways
+
+module _ (n t bound : ℕ) (pending : List ℕ) where
+  abbrev fits : ℕ → Bool
+  fits d = eqb (dueAt pending (t + d)) 0 || ltb d bound && soundWord n (dueAt pending (t + d))
+
+  pends : pendingInRange n t bound pending ≡ true → Each (Fits n bound) t pending
+  unfolding pendingInRange
+  pends e d l =
+      ⊎-elim
+      (λ z. inl (eqb-true (dueAt pending (t + d)) 0 z))
+      (λ s. let h = both s in inr (ltb-true d bound (h .0), h .1))
+      (or-cases (eqb (dueAt pending (t + d)) 0) (ltb d bound && soundWord n (dueAt pending (t + d))) (every-at fits 32 e d l))
+
+  pends-back : Each (Fits n bound) t pending → pendingInRange n t bound pending ≡ true
+  unfolding pendingInRange
+  pends-back h =
+      every-all fits 32
+      (λ d l.
+      ⊎-elim
+      (λ z. or-left (eqb (dueAt pending (t + d)) 0) (ltb d bound && soundWord n (dueAt pending (t + d))) (eq-eqb (dueAt pending (t + d)) 0 z))
+      (λ s. or-right (eqb (dueAt pending (t + d)) 0) (ltb d bound && soundWord n (dueAt pending (t + d))) (and-both (lt-ltb d bound (s .0)) (s .1)))
+      (h d l))
+
+-- ---- the state, both ways: each clause of a test is one line here and one there
+
+module _ (p : Policy) (s : State) where
+  -- a last activate of a bank is before the cycle
+  abbrev bank-before : ℕ → Bool
+  bank-before b = activateInRange (s .cycle) (getD (s .flight .banks) b 0)
+
+  pub ranged : inRange p s ≡ true → Ranged p s
+  unfolding inRange stateInRange shaped countsInRange flightInRange
+  ranged e =
+      let fit-state = both e in
+      let flight = both (fit-state .1) in
+      let turns = both (flight .0) in
+      let queues = both (turns .0) in
+      let shape-counts = both (queues .0) in
+      let cycle = both (shape-counts .1) in
+      let count-owner = both (cycle .0) in
+      let banks = both (shape-counts .0) in
+      let responses = both (banks .0) in
+      let columns = both (responses .0) in
+      let pointers = both (columns .0) in
+      let left = both (pointers .0) in
+      let lengths = both (left .0) in
+      let slots-heads = both (lengths .0) in
+      let responding = both (flight .1) in
+      let commanding = both (responding .0) in
+      let activates = both (commanding .0) in
+      let turn : (c : ℕ) → c < 16 → turn-within p (s .turns) c = λ c l. turn-range p (s .turns) c (every-at (turnsInRange p (s .turns)) 16 (turns .1) c l) in
+      record {
+        fit = fit-state .0;
+        same-count = eqb-true (s .classes) (p .classes) (count-owner .0);
+        cycle-bound = leb-true (s .cycle) lastCycle (cycle .1);
+        queues =
+            record {
+              slots-long = eqb-true (length (s .queues .slots)) 128 (slots-heads .0);
+              heads-long = eqb-true (length (s .queues .heads)) 16 (slots-heads .1);
+              lengths-long = eqb-true (length (s .queues .lengths)) 16 (lengths .1);
+              queue = λ c l. queue-range (p .classes) (s .queues) c (every-at (queueInRange (p .classes) (s .queues)) 16 (queues .1) c l);
+            };
+        turns =
+            record {
+              owner-class = count-owner .1;
+              left-within =
+                  record {
+                    sixteen = eqb-true (length (s .turns .left)) 16 (left .1);
+                    within = λ c l. turn c l .1;
+                  };
+              pointers-fit =
+                  record {
+                    sixteen = eqb-true (length (s .turns .pointers)) 16 (pointers .1);
+                    within = λ c l. turn c l .0;
+                  };
+            };
+        flight =
+            record {
+              columns-long = eqb-true (length (s .flight .columns)) 32 (columns .1);
+              responses-long = eqb-true (length (s .flight .responses)) 32 (responses .1);
+              banks-long = eqb-true (length (s .flight .banks)) 8 (banks .1);
+              activates-before =
+                  record { of-all = before (s .cycle) (s .flight .last) (activates .0); of-bank = λ b l. before (s .cycle) (getD (s .flight .banks) b 0) (every-at bank-before 8 (activates .1) b l) };
+              columns-due = pends (p .classes) (s .cycle) (p .timing .column) (s .flight .columns) (commanding .1);
+              responses-due = pends (p .classes) (s .cycle) (p .timing .response) (s .flight .responses) (responding .1);
+            };
+      }
+
+  pub in-range : Ranged p s → inRange p s ≡ true
+  unfolding inRange stateInRange shaped countsInRange flightInRange
+  in-range r =
+      let q = r .queues in
+      let t = r .turns in
+      let f = r .flight in
+      let heads = and-both (eq-eqb (length (s .queues .slots)) 128 (q .slots-long)) (eq-eqb (length (s .queues .heads)) 16 (q .heads-long)) in
+      let lengths = and-both heads (eq-eqb (length (s .queues .lengths)) 16 (q .lengths-long)) in
+      let left = and-both lengths (eq-eqb (length (s .turns .left)) 16 (t .left-within .sixteen)) in
+      let pointers = and-both left (eq-eqb (length (s .turns .pointers)) 16 (t .pointers-fit .sixteen)) in
+      let columns = and-both pointers (eq-eqb (length (s .flight .columns)) 32 (f .columns-long)) in
+      let responses = and-both columns (eq-eqb (length (s .flight .responses)) 32 (f .responses-long)) in
+      let shape = and-both responses (eq-eqb (length (s .flight .banks)) 8 (f .banks-long)) in
+      let count-owner = and-both (eq-eqb (s .classes) (p .classes) (r .same-count)) (t .owner-class) in
+      let counts = and-both count-owner (le-leb (s .cycle) lastCycle (r .cycle-bound)) in
+      let queues = every-all (queueInRange (p .classes) (s .queues)) 16 (λ c l. queue-back (p .classes) (s .queues) c (q .queue c l)) in
+      let turns = every-all (turnsInRange p (s .turns)) 16 (λ c l. turn-back p (s .turns) c (t .pointers-fit .within c l, t .left-within .within c l)) in
+      let banks = every-all bank-before 8 (λ b l. before-back (s .cycle) (getD (s .flight .banks) b 0) (f .activates-before .of-bank b l)) in
+      let activates = and-both (before-back (s .cycle) (s .flight .last) (f .activates-before .of-all)) banks in
+      let commanding = and-both activates (pends-back (p .classes) (s .cycle) (p .timing .column) (s .flight .columns) (f .columns-due)) in
+      let flight = and-both commanding (pends-back (p .classes) (s .cycle) (p .timing .response) (s .flight .responses) (f .responses-due)) in
+      and-both (r .fit) (and-both (and-both (and-both (and-both shape counts) queues) turns) flight)
+
+-- ---- what a tick rests on
+
+-- the classes by the state's own count are among the sixteen numbers
+pub small-classes : (p : Policy) (s : State) → Ranged p s → SmallClasses (s .classes)
+unfolding isClass
+small-classes p s r = subst SmallClasses (sym (r .same-count)) (policy-laws p (r .fit) .order .class-small)
+
+-- the command bus of a state in range, whoever of the sixteen has the turn
+pub record BusRange (n : ℕ) (b : Bus) : Type 0 where
+  pub timed : TimingLaws (b .timing)
+  pub owner-small : b .owner < 16
+  pub queues : QueuesRange n (b .queues)
+  pub flight : FlightRange n (b .timing) (b .cycle) (b .flight)
+
+pub bus-range : (p : Policy) (s : State) → Ranged p s → (turns : Turns) → turns .owner < 16 → BusRange (p .classes) (busAt p s turns)
+bus-range p s r turns small =
+    record { timed = policy-laws p (r .fit) .timed; owner-small = small; queues = r .queues; flight = r .flight }
+
+module _ (n : ℕ) (b : Bus) (r : BusRange n b) where
+  -- only a request that waits goes
+  pub goes-waits : canActivate b ≡ true → goesAt b < lengthOf (b .queues) (b .owner)
+  unfolding canActivate
+  goes-waits e =
+      ltb-true (goesAt b) (lengthOf (b .queues) (b .owner))
+      (and-three (offsetAllows (b .timing) (b .elided) (b .cycle)) (ltb (goesAt b) (lengthOf (b .queues) (b .owner))) (gapsMet (b .timing) (b .flight) (going b) (b .cycle)) e .1)
+
+  -- it is one of the owner's, and sound
+  pub going-right : goesAt b < lengthOf (b .queues) (b .owner) → rightWord n (b .owner) (going b) ≡ true
+  unfolding going
+  going-right some = r .queues .queue (b .owner) (r .owner-small) .right (goesAt b) some
+
+  pub going-sound : goesAt b < lengthOf (b .queues) (b .owner) → soundWord n (going b) ≡ true
+  going-sound some = right-sound n (b .owner) (going b) (going-right some)
+
+  -- a due column's word is an offer
+  pub due-offer : ((dueColumn b ≡ 0) → ⊥) → isOffer (dueColumn b) ≡ true
+  due-offer some =
+      let columns = b .flight .columns in
+      let now : b .cycle + 0 ≡ b .cycle = omega arith in
+      subst (λ (k : ℕ). isOffer (dueAt columns k) ≡ true) now
+      (⊎-elim (λ none. absurd (some (ap (dueAt columns) (sym now) ∙ none))) (λ fits. sound-offer n (dueAt columns (b .cycle + 0)) (fits .1)) (r .flight .columns-due 0 (lit< tt)))
+
+  -- so the second step has what it rests on
+  pub ready : b .cycle < lastCycle → Ready b
+  ready left =
+      record {
+        timed = r .timed;
+        ticks-left = left;
+        class = r .owner-small;
+        in-ring = r .queues .queue (b .owner) (r .owner-small) .in-ring;
+        sound = λ some. let sound = going-sound some in record { offer = sound-offer n (going b) sound; bank = sound-bank n (going b) sound; kind = sound-kind n (going b) sound };
+        due-offer = due-offer;
+      }

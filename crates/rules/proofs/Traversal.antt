@@ -1,0 +1,175 @@
+-- The laws of the traversal: where a moved pointer leads; the one induction over its ascents by which the rest is proved; and that its bound is never met, since a class
+-- that passes the turn on has a cover, its moved pointer names one, and a cover has fewer classes above it. Every policy in range has what this rests on.
+-- Assumes nothing.
+use mathlib.Core.Path.{_≡_, refl, sym, ap, _∙_, subst}
+use mathlib.Core.Logic.{⊎-elim}
+use mathlib.Core.Bool.{true, false, not, _&&_}
+use mathlib.Core.List.{List}
+use Prim.Native.Nat.{ℕ, zero, suc, _+_, _^_, _≤_, _<_}
+use native.Mathlib.Nat.{not-suc-le-zero}
+use native.Mathlib.Omega.{arith}
+use borrow.Author.Tests.{eq-eqb, ne-eqb, lt-ltb, le-ltb}
+use lib.Dec.{eqb, lit<}
+use lib.ListN.{getD}
+use Rattle.basics.specs.Below.{some}
+use Rattle.order.specs.Mask.{member, size}
+use Rattle.order.specs.Order.{aboveIn}
+use Rattle.policy.specs.Policy.{isClass, flows, strictly, above, coversOf, inRange}
+use Rattle.policy.specs.declared.Policy.{Policy}
+use Rattle.basics.proofs.Truth.{either, not-both, or-right, on-true, on-false}
+use Rattle.basics.proofs.Below.{lt-or-ge, some-found, none-at, count-yes, count-mono}
+use Rattle.order.proofs.Masks.{same-members, member-zero, member-small}
+use Rattle.order.proofs.Numbered as numbered
+use Rattle.order.proofs.Orders.{apart-strictly, strictly-flows}
+use Rattle.policy.proofs.Laws.{policy-laws}
+use Rattle.rules.specs.Traversal.{firstClass, Candidates, candidates, moved, movedPointer, reachedAt, named, takesBy, takes, Reached, endsAt, tryClass}
+use Rattle.rules.specs.Climb.{Climbs, Names}
+use Rattle.rules.specs.Laws.{Ascends}
+
+-- ---- where a moved pointer leads
+
+-- a set that is not empty has a member, so its size is at least 1
+some-member : (m : ℕ) → m < 2 ^ 16 → ((m ≡ 0) → ⊥) → 1 ≤ size m
+unfolding size
+some-member m small full =
+    ⊎-elim
+    (λ t.
+    let w = some-found (member m) 16 t in
+    omega (arith, count-yes (member m) (w .0) (w .2), count-mono (member m) (w .0 + 1) 16 (omega (arith, w .1))))
+    (λ t. absurd (full (same-members m 0 small (lit< tt) (λ j l. none-at (member m) 16 t j l ∙ sym (member-zero j)))))
+    (either (some 16 (member m)))
+
+-- the moved pointer of a class with a cover is one of the covers' numbers
+pub moved-names : (m pointer : ℕ) → m < 2 ^ 16 → ((m ≡ 0) → ⊥) → Names m (moved m pointer)
+unfolding moved
+moved-names m pointer small full =
+    ⊎-elim
+    (λ l. rw (ne-eqb m 0 full, lt-ltb pointer (size m) l) (record { some = omega arith; within = omega arith }))
+    (λ l. rw (ne-eqb m 0 full, le-ltb pointer (size m) l) (record { some = omega arith; within = some-member m small full }))
+    (lt-or-ge pointer (size m))
+
+-- so the cover that it names is one
+pub named-covers : (covers pointers : List ℕ) (c : ℕ) → getD covers c 0 < 2 ^ 16 → ((getD covers c 0 ≡ 0) → ⊥) → member (getD covers c 0) (named covers pointers c) ≡ true
+unfolding named movedPointer
+named-covers covers pointers c small full =
+    let range = moved-names (getD covers c 0) (getD pointers c 0) small full in
+    numbered.named (getD covers c 0) (moved (getD covers c 0) (getD pointers c 0)) (range .some) (range .within) .in-set
+
+-- a class that does not take the turn has a cover
+pub passes-on : (all : Candidates) (c : ℕ) → takes all c ≡ false → getD (all .covers) c 0 ≡ 0 → ⊥
+unfolding takes takesBy
+passes-on all c e none =
+    not-both (or-right (not (eqb (getD (all .lengths) c 0) 0) && not (eqb (getD (all .left) c 0) 0)) (eqb (getD (all .covers) c 0) 0) (eq-eqb (getD (all .covers) c 0) 0 none)) e
+
+-- ---- the induction
+
+module _ (all : Candidates) where
+  pub try-takes : (bound : ℕ) (pointers : List ℕ) (c : ℕ) → takes all c ≡ true → tryClass bound all pointers c ≡ endsAt all pointers c
+  unfolding tryClass
+  try-takes zero pointers c e = refl
+  try-takes (suc bound) pointers c e = on-true (takes all c) _ _ e
+
+  pub try-passes : (bound : ℕ) (pointers : List ℕ) (c : ℕ) → takes all c ≡ false → tryClass (suc bound) all pointers c ≡ tryClass bound all (reachedAt (all .covers) pointers c) (named (all .covers) pointers c)
+  unfolding tryClass
+  try-passes bound pointers c e = on-false (takes all c) _ _ e
+
+  -- where the traversal ends from the class that is named on
+  abbrev pub onward : ℕ → List ℕ → ℕ → Reached
+  onward bound pointers c = tryClass bound all (reachedAt (all .covers) pointers c) (named (all .covers) pointers c)
+
+  -- if it holds of that, it holds of the class
+  abbrev pub Next : (ℕ → List ℕ → ℕ → Reached → Type 0) → ℕ → List ℕ → ℕ → Type 0
+  Next P bound pointers c = P bound (reachedAt (all .covers) pointers c) (named (all .covers) pointers c) (onward bound pointers c) → P (suc bound) pointers c (onward bound pointers c)
+
+  -- what holds of where the traversal ends: where no ascent is left, where a class takes the turn, and, if it holds from the class that is named on, where one passes
+  -- it on
+  pub traverse : (P : ℕ → List ℕ → ℕ → Reached → Type 0) → ((pointers : List ℕ) (c : ℕ) → P zero pointers c (endsAt all pointers c)) → ((bound : ℕ) (pointers : List ℕ) (c : ℕ) → takes all c ≡ true → P (suc bound) pointers c (endsAt all pointers c)) → ((bound : ℕ) (pointers : List ℕ) (c : ℕ) → takes all c ≡ false → Next P bound pointers c) → (bound : ℕ) (pointers : List ℕ) (c : ℕ) → P bound pointers c (tryClass bound all pointers c)
+  unfolding tryClass
+  traverse P none takes-it passes zero pointers c = none pointers c
+  traverse P none takes-it passes (suc bound) pointers c =
+      ⊎-elim
+      (λ t. subst (P (suc bound) pointers c) (sym (try-takes (suc bound) pointers c t)) (takes-it bound pointers c t))
+      (λ t.
+      subst (P (suc bound) pointers c) (sym (try-passes bound pointers c t))
+      (passes bound pointers c t (traverse P none takes-it passes bound (reachedAt (all .covers) pointers c) (named (all .covers) pointers c))))
+      (either (takes all c))
+
+  -- the same where the bound does not count
+  pub traversed : (P : List ℕ → ℕ → Reached → Type 0) → ((pointers : List ℕ) (c : ℕ) → P pointers c (endsAt all pointers c)) → ((bound : ℕ) (pointers : List ℕ) (c : ℕ) → takes all c ≡ false → Next (λ bound. P) bound pointers c) → (bound : ℕ) (pointers : List ℕ) (c : ℕ) → P pointers c (tryClass bound all pointers c)
+  traversed P ends passes = traverse (λ bound. P) ends (λ bound pointers c t. ends pointers c) passes
+
+  -- ---- it ends before its bound
+
+  module _ (rows : List ℕ) (order : Climbs rows (all .covers)) where
+    -- where a class passes the turn on, the class that it names is a cover
+    pub passes-to : (pointers : List ℕ) (c : ℕ) → takes all c ≡ false → member (getD (all .covers) c 0) (named (all .covers) pointers c) ≡ true
+    passes-to pointers c e = named-covers (all .covers) pointers c (order .sets c) (passes-on all c e)
+
+    -- it has fewer above it
+    pub falls : (pointers : List ℕ) (c : ℕ) → takes all c ≡ false → aboveIn rows (named (all .covers) pointers c) < aboveIn rows c
+    falls pointers c e = order .falls c (named (all .covers) pointers c) (passes-to pointers c e)
+
+    -- and is one of the sixteen
+    pub passes-small : (pointers : List ℕ) (c : ℕ) → takes all c ≡ false → named (all .covers) pointers c < 16
+    passes-small pointers c e = member-small (getD (all .covers) c 0) (named (all .covers) pointers c) (order .sets c) (passes-to pointers c e)
+
+    -- one ascent more than there are classes above changes nothing
+    pub enough : (bound : ℕ) (pointers : List ℕ) (c : ℕ) → aboveIn rows c ≤ bound → tryClass bound all pointers c ≡ tryClass (suc bound) all pointers c
+    enough =
+        traverse (λ bound pointers c r. aboveIn rows c ≤ bound → r ≡ tryClass (suc bound) all pointers c)
+        (λ pointers c h.
+        ⊎-elim
+        (λ t. sym (try-takes 1 pointers c t))
+        (λ t. absurd (not-suc-le-zero {n = 0} (omega (arith, falls pointers c t))))
+        (either (takes all c)))
+        (λ bound pointers c t h. sym (try-takes (suc (suc bound)) pointers c t))
+        (λ bound pointers c t next h. next (omega (arith, falls pointers c t)) ∙ sym (try-passes (suc bound) pointers c t))
+
+    -- it ends at one of the sixteen
+    pub owner-small : (bound : ℕ) (pointers : List ℕ) (c : ℕ) → c < 16 → tryClass bound all pointers c .owner < 16
+    unfolding endsAt
+    owner-small =
+        traversed (λ pointers c r. c < 16 → r .owner < 16) (λ pointers c l. l) (λ bound pointers c t next l. next (passes-small pointers c t))
+
+-- ---- of a policy in range
+
+-- rows and covers are what the traversal rests on
+pub climbs : (p : Policy) → inRange p ≡ true → Climbs (p .rows) (p .covers)
+unfolding coversOf above flows strictly
+climbs p given =
+    let laws = policy-laws p given in
+    record {
+      sets = laws .covering .sets;
+      falls = laws .higher .falls-to-cover;
+      upward =
+          λ c owner f apart none.
+          let w = laws .covering .some-cover c owner (apart-strictly (p .rows) c owner f apart) in
+          not-both (w .1) (ap (λ (m : ℕ). member m (w .0)) none ∙ member-zero (w .0));
+    }
+
+module _ (p : Policy) (given : inRange p ≡ true) where
+  -- the traversal starts at a class
+  pub first-class : (k : ℕ) → isClass p (firstClass p k) ≡ true
+  unfolding firstClass
+  first-class k = policy-laws p given .lowest .is-class
+
+  pub first-small : (k : ℕ) → firstClass p k < 16
+  first-small k = policy-laws p given .order .class-small (firstClass p k) (first-class k)
+
+  -- a class may flow to the cover that its pointer names
+  pub to-cover : (pointers : List ℕ) (c : ℕ) → ((getD (p .covers) c 0 ≡ 0) → ⊥) → flows p c (named (p .covers) pointers c) ≡ true
+  unfolding coversOf flows strictly
+  to-cover pointers c full =
+      strictly-flows (p .rows) c (named (p .covers) pointers c)
+      (policy-laws p given .covering .exactly c (named (p .covers) pointers c) .0 (named-covers (p .covers) pointers c (climbs p given .sets c) full) .strict)
+
+  pub ascends : Ascends p
+  unfolding endsAt
+  ascends bound lengths left =
+      let all = candidates (p .covers) lengths left in
+      let order = policy-laws p given .order in
+      traversed all (λ pointers c r. isClass p c ≡ true → flows p c (r .owner) ≡ true) (λ pointers c l. order .reflexive c l)
+      (λ rest pointers c t next l.
+      let step = to-cover pointers c (passes-on all c t) in
+      order .transitive c (named (p .covers) pointers c) (onward all rest pointers c .owner) step (next (order .to-class c (named (p .covers) pointers c) step)))
+      bound

@@ -1,0 +1,77 @@
+-- The gaps. A gap met at one cycle is met at another for a gap that is longer by no more than the cycle is later; and from an activate just made every gap counts from its
+-- cycle. That a last activate is before a cycle is that a gap of 1 is met there. How one is stored is told apart in this file alone, beside the proofs of the functions that
+-- store and read one.
+-- Assumes nothing.
+use mathlib.Core.Path.{_≡_, refl}
+use mathlib.Core.Logic.{⊎-elim}
+use mathlib.Core.Bool.{true, _&&_, _||_}
+use Prim.Native.Nat.{ℕ, _+_, _≤_, _<_}
+use native.Mathlib.Omega.{arith}
+use borrow.Author.Tests.{leb-true, le-leb}
+use lib.Dec.{leb, eqb}
+use Rattle.basics.proofs.Truth.{and-left, and-right, and-both, or-left, or-right, or-cases}
+use Rattle.state.specs.Stored.{activateAt, activateNext, activateKind}
+use Rattle.rules.specs.Wire.{gapMet}
+use Rattle.state.specs.Range.{activateInRange}
+
+-- one cycle for another, and one gap for another
+pub gap-shift : (last gap other t u : ℕ) → t + other ≤ u + gap → gapMet last gap t ≡ true → gapMet last other u ≡ true
+unfolding gapMet
+gap-shift last gap other t u l e =
+    ⊎-elim
+    (λ z. or-left (eqb last 0) (leb (activateNext last + other) (u + 1)) z)
+    (λ h. or-right (eqb last 0) (leb (activateNext last + other) (u + 1)) (le-leb (activateNext last + other) (u + 1) (omega (arith, l, leb-true (activateNext last + gap) (t + 1) h))))
+    (or-cases (eqb last 0) (leb (activateNext last + gap) (t + 1)) e)
+
+-- from an activate at t
+pub gap-new : (kind gap t u : ℕ) → kind < 2 → t + gap ≤ u → gapMet (activateAt t kind) gap u ≡ true
+unfolding gapMet activateAt activateNext
+gap-new kind gap t u k l =
+    or-right (eqb (activateAt t kind) 0) (leb (activateNext (activateAt t kind) + gap) (u + 1)) (le-leb (activateNext (activateAt t kind) + gap) (u + 1) (omega (arith, k, l)))
+
+-- where there was none
+pub gap-none : (gap t : ℕ) → gapMet 0 gap t ≡ true
+unfolding gapMet
+gap-none gap t = refl
+
+-- a kind is 0 or 1
+pub kind-small : (last : ℕ) → activateKind last < 2
+unfolding activateKind
+kind-small last = omega arith
+
+-- ---- before a cycle
+
+-- what is stored is an activate, or none: a 1 is neither
+abbrev pub Stored : ℕ → Type 0
+Stored last = (eqb last 0 || leb 1 (activateNext last)) ≡ true
+
+pub stored-new : (t kind : ℕ) → Stored (activateAt t kind)
+unfolding activateAt activateNext
+stored-new t kind = or-right (eqb (activateAt t kind) 0) (leb 1 (activateNext (activateAt t kind))) (le-leb 1 (activateNext (activateAt t kind)) (omega arith))
+
+-- "a last activate not before the cycle" is refused
+abbrev pub Before : ℕ → ℕ → Type 0
+Before t last = Stored last × (gapMet last 1 t ≡ true)
+
+pub before : (t last : ℕ) → activateInRange t last ≡ true → Before t last
+unfolding activateInRange gapMet
+before t last e =
+    ⊎-elim
+    (λ z. (or-left (eqb last 0) (leb 1 (activateNext last)) z, or-left (eqb last 0) (leb (activateNext last + 1) (t + 1)) z))
+    (λ h.
+    let early = leb-true (activateNext last) t (and-right (leb 1 (activateNext last)) (leb (activateNext last) t) h) in (
+      or-right (eqb last 0) (leb 1 (activateNext last)) (and-left (leb 1 (activateNext last)) (leb (activateNext last) t) h),
+      or-right (eqb last 0) (leb (activateNext last + 1) (t + 1)) (le-leb (activateNext last + 1) (t + 1) (omega (arith, early))),
+    ))
+    (or-cases (eqb last 0) (leb 1 (activateNext last) && leb (activateNext last) t) e)
+
+pub before-back : (t last : ℕ) → Before t last → activateInRange t last ≡ true
+unfolding activateInRange gapMet
+before-back t last b =
+    let none : eqb last 0 ≡ true → activateInRange t last ≡ true = or-left (eqb last 0) (leb 1 (activateNext last) && leb (activateNext last) t) in
+    ⊎-elim none
+    (λ stored.
+    ⊎-elim none
+    (λ h. or-right (eqb last 0) (leb 1 (activateNext last) && leb (activateNext last) t) (and-both stored (le-leb (activateNext last) t (omega (arith, leb-true (activateNext last + 1) (t + 1) h)))))
+    (or-cases (eqb last 0) (leb (activateNext last + 1) (t + 1)) (b .1)))
+    (or-cases (eqb last 0) (leb 1 (activateNext last)) (b .0))

@@ -1,0 +1,23 @@
+-- What the second step of a tick rests on, and every state in range has: sound timing, a class for the owner, a sound request where one goes, and an offer's word where a
+-- column command is due.
+use mathlib.Core.Path.{_≡_}
+use mathlib.Core.Bool.{true}
+use Prim.Native.Nat.{ℕ, _<_}
+use Rattle.policy.specs.Laws.{TimingLaws}
+use Rattle.requests.specs.Sizes.{lastCycle, ringPlaces, bankCount}
+use Rattle.requests.specs.Word.{kindOf, bankOf, isOffer}
+use Rattle.state.specs.Stored.{headOf, lengthOf}
+use Rattle.rules.specs.Step.{Bus, dueColumn, goesAt, going}
+
+pub record SoundRequest (w : ℕ) : Type 0 where
+  pub offer : isOffer w ≡ true
+  pub bank : bankOf w < bankCount
+  pub kind : kindOf w < 2
+
+pub record Ready (b : Bus) : Type 0 where
+  pub timed : TimingLaws (b .timing)
+  pub ticks-left : b .cycle < lastCycle
+  pub class : b .owner < 16
+  pub in-ring : headOf (b .queues) (b .owner) < ringPlaces
+  pub sound : goesAt b < lengthOf (b .queues) (b .owner) → SoundRequest (going b)
+  pub due-offer : ((dueColumn b ≡ 0) → ⊥) → isOffer (dueColumn b) ≡ true

@@ -1,0 +1,71 @@
+-- The traversal (document 01: the walk) gives a turn its owner. It tries the least class first, and ascends by round-robin pointers (document 01: marks).
+use mathlib.Core.Bool.{Bool, true, false, cond, not, _&&_, _||_}
+use mathlib.Core.List.{List}
+use Prim.Native.Nat.{ℕ, zero, suc, _+_, _-_}
+use lib.Dec.{ltb, eqb}
+use lib.ListN.{getD, set}
+use Rattle.order.specs.Mask.{size, nth}
+use Rattle.policy.specs.Policy.{least}
+use Rattle.policy.specs.declared.Policy.{Policy}
+
+-- "It tries the least class first.": the class where the traversal of a turn starts, by the turn's number
+unfoldable pub firstClass : Policy → ℕ → ℕ
+firstClass p k = least p
+
+-- the classes as the traversal sees them, with an entry for each: the set of its covers, how many of its requests wait, its turns left
+pub record Candidates : Type 0 where
+  pub covers : List ℕ
+  pub lengths : List ℕ
+  pub left : List ℕ
+
+abbrev pub candidates : List ℕ → List ℕ → List ℕ → Candidates
+candidates covers lengths left = record { covers = covers; lengths = lengths; left = left }
+
+-- "A class that is reached moves its mark on by 1, from the number of its children back to 1; marks start at 0, and a class without children has none."
+unfoldable pub moved : ℕ → ℕ → ℕ
+moved covers pointer = cond (eqb covers 0) 0 (cond (ltb pointer (size covers)) (pointer + 1) 1)
+
+unfoldable pub movedPointer : List ℕ → List ℕ → ℕ → ℕ
+movedPointer covers pointers c = moved (getD covers c 0) (getD pointers c 0)
+
+-- the pointers once a class is reached
+unfoldable pub reachedAt : List ℕ → List ℕ → ℕ → List ℕ
+reachedAt covers pointers c = set pointers c (movedPointer covers pointers c)
+
+-- "the child that its mark names", once the mark has moved
+unfoldable pub named : List ℕ → List ℕ → ℕ → ℕ
+named covers pointers c = nth (getD covers c 0) (movedPointer covers pointers c)
+
+-- the cover that a class's pointer names as it stands
+abbrev pub namedNow : List ℕ → List ℕ → ℕ → ℕ
+namedNow covers pointers c = nth (getD covers c 0) (getD pointers c 0)
+
+-- "The class takes the turn if it has a request waiting and turns left, or if nothing is above it": it then has no cover, and otherwise it has one.
+unfoldable pub takesBy : ℕ → ℕ → ℕ → Bool
+takesBy covers length left = not (eqb length 0) && not (eqb left 0) || eqb covers 0
+
+unfoldable pub takes : Candidates → ℕ → Bool
+takes all c = takesBy (getD (all .covers) c 0) (getD (all .lengths) c 0) (getD (all .left) c 0)
+
+-- the class at which the traversal ends, and the pointers after it
+pub record Reached : Type 0 where
+  pub owner : ℕ
+  pub pointers : List ℕ
+
+-- where the class that is reached is the owner
+unfoldable pub endsAt : Candidates → List ℕ → ℕ → Reached
+endsAt all pointers c = record { owner = c; pointers = reachedAt (all .covers) pointers c }
+
+-- a class is tried: it is reached, and takes the turn or passes it on. "If not, the turn ascends to the child that its mark names, and that child is tried in the
+-- same way." The first argument bounds how often the turn ascends; there are never more ascents than classes strictly above.
+unfoldable pub tryClass : ℕ → Candidates → List ℕ → ℕ → Reached
+tryClass zero all pointers c = endsAt all pointers c
+tryClass (suc rest) all pointers c =
+    elim (takes all c) [
+      | true ↦ endsAt all pointers c
+      | false ↦ tryClass rest all (reachedAt (all .covers) pointers c) (named (all .covers) pointers c)
+    ]
+
+-- "The owner's turns left fall by 1, not below 0."
+unfoldable pub charge : List ℕ → ℕ → List ℕ
+charge left owner = set left owner (getD left owner 0 - 1)

@@ -1,0 +1,24 @@
+-- `state::stored::place` meets its contract: numbers modulo 8 have the sum of the numbers modulo 8.
+-- Assumes nothing.
+use mathlib.Core.Path.{refl}
+use native.Mathlib.Omega.{arith}
+use borrow.Author.Needs.{needs}
+use Rattle.state.specs.Stored.{place}
+use Rattle.state.proofs.stored.place.Statement.{statement}
+use Rattle.state.proofs.stored.place.Tie as tie
+
+mul-result : tie.Need-mul-result
+mul-result c = omega arith
+
+add-result : tie.Need-add-result
+add-result c = omega arith
+
+add-result-2 : tie.Need-add-result-2
+add-result-2 c = omega arith
+
+returns : tie.Need-returns
+unfolding place
+returns c = omega arith
+
+pub place-spec : {M : Type 1} → statement M
+place-spec = tie.close (tie.spec mul-result add-result add-result-2 returns)

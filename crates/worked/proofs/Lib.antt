@@ -1,0 +1,3 @@
+-- That the definitions yield the worked turns.
+
+pub mod Worked

@@ -1,0 +1,190 @@
+-- The worked turns: the table is computed from the definitions, and (a) and (e) are shown for every policy. The logs are computed without the test of the range at each call,
+-- which every state reached from fresh passes.
+-- Assumes nothing.
+use mathlib.Core.Path.{_≡_, refl, sym, ap, ap₂, _∙_}
+use mathlib.Core.Logic.{⊎-elim}
+use mathlib.Core.Bool.{Bool, true, not, _&&_}
+use mathlib.Core.List.{List, [], _∷_, _++_, map}
+use Prim.Native.Nat.{ℕ, _+_, _≤_}
+use native.Mathlib.Nat.{not-suc-le-zero, le-of-lt}
+use native.Mathlib.Omega.{arith}
+use borrow.Author.Tests.{eqb-true, eq-eqb, ltb-true}
+use lib.Dec.{eqb}
+use lib.ListN.{length, getD}
+use Rattle.basics.specs.Below.{every, some, first, count, sum, setOf, listOf}
+use Rattle.order.specs.Mask.{member, includes, size, nth, belowMask}
+use Rattle.order.specs.Order.{isClassIn, flowsIn, strictlyIn, rowFits, rowsFit, antisymmetricAt, antisymmetric, transitiveAt, transitive, hasLeast, leastAt, leastIn, betweenIn, coversIn, coverSet}
+use Rattle.policy.specs.Turns.{minimumsSum, turnsSound, minimumsAbove, capIn}
+use Rattle.policy.specs.Timing.{within, gapsWithin, bankWithin, timingSound}
+use Rattle.policy.specs.Policy.{isClass, least, above, coversOf, cap, firstFailing, policyTests, refusal, storedFits, allStoredFits, shaped, inRange}
+use Rattle.file.specs.File.{byte, word, kind, start, bodySize, kindsFit, bodiesAbut, contentsFit, classCount, lengthsFit, rowAt, epochOf, minimumAt, timingOf, held, noPolicy, fileTests, status, refusedWith, readFile}
+use Rattle.file.specs.Taken.{policyOf}
+use Rattle.policy.specs.declared.Policy.{Policy}
+use Rattle.file.specs.declared.Reading.{Reading}
+use Rattle.basics.proofs.Truth.{either, not-both, and-fails-left, or-cases, on-true}
+use Rattle.policy.proofs.Laws.{policy-laws}
+use Rattle.requests.specs.Word.{classOf, kindOf, bankOf, tagOf, isOffer, requestOf, wordOf, classFits, bankAndKindFit, columnNumber, commandNumber}
+use Rattle.state.specs.Stored.{headOf, lengthOf, place, waitingAt, dueAt, activateAt, activateNext, activateKind, sentAt}
+use Rattle.rules.specs.Queue.{enqueue, dequeue, offerStatus, queuesAfter}
+use Rattle.rules.specs.Traversal.{firstClass, candidates, moved, movedPointer, reachedAt, named, takesBy, takes, endsAt, tryClass, charge}
+use Rattle.rules.specs.Lookahead.{goesOn, reaches, aheadOf, nextLeft, elides}
+use Rattle.rules.specs.Wire.{gapMet, gapsMetBy, gapsMet, offsetAllows, activated}
+use Rattle.rules.specs.Step.{turnStarts, turnNumber, leftAtStart, ownedBy, startTurn, turnsAt, turnWord, goesAt, going, canActivate, drive, answered}
+use Rattle.state.specs.Fresh.{zeros, emptyQueues, nothingInFlight, stateAtStart, freshState}
+use Rattle.state.specs.Range.{inRange as stateRange}
+use Rattle.rules.specs.Call.{offerOn, silent, afterTick, tickOn, tick}
+use Rattle.requests.specs.Trace.{callOf}
+use Rattle.rules.specs.Calls.{Answer, ticked, offered, answer, answerTo, logOf}
+use Rattle.worked.specs.Worked.{example, alone, pair, fork, chain, ticks, reads, logFrom, turnsIn, turnsFrom, printed, Case, table, WorkedTurns}
+use Rattle.state.specs.declared.State.{State}
+use Rattle.requests.specs.declared.Call.{Call}
+use Rattle.requests.specs.declared.Call.the-variants.{Tick, Offer, Malformed}
+use Rattle.rules.proofs.Traversal.{traverse, falls, climbs, first-class, ascends}
+use Rattle.rules.proofs.Lookahead.{reach-here}
+use Rattle.rules.proofs.Call.{offer-is}
+use Rattle.rules.proofs.Range.{in-range}
+use Rattle.rules.proofs.CallsKept.{fresh-ranged}
+use Rattle.rules.proofs.Calls.{answered-in-range}
+
+-- ---- the definitions that are computed with: to unfold one of these is to unfold all that its line names
+
+policy-computed : Policy → Policy
+unfolding example policyOf listOf every some setOf sum member includes belowMask isClassIn flowsIn strictlyIn betweenIn coversIn coverSet capIn minimumsAbove
+policy-computed p = p
+
+refusal-computed : Policy → ℕ
+unfolding policy-computed rowFits rowsFit antisymmetricAt antisymmetric transitiveAt transitive hasLeast leastAt minimumsSum turnsSound within gapsWithin bankWithin timingSound firstFailing policyTests refusal
+refusal-computed p = refusal p
+
+range-computed : Policy → Bool
+unfolding refusal-computed coversOf cap isClass storedFits allStoredFits shaped inRange
+range-computed p = inRange p
+
+file-computed : List ℕ → Reading
+unfolding refusal-computed printed byte word kind start bodySize kindsFit bodiesAbut contentsFit classCount lengthsFit rowAt epochOf minimumAt timingOf held noPolicy fileTests status refusedWith readFile
+file-computed file = readFile file
+
+-- ---- logs, each call without the test of its range
+
+plain : Policy → State → Call → Answer
+plain p s Tick = ticked (tickOn p s)
+plain p s (Offer r) = offered (offerOn s r)
+plain p s Malformed = record { state = s; status = 14; command = 0; response = 0; turn = 0 }
+
+plain-log : Policy → State → List ℕ → List ℕ
+plain-log p s [] = []
+plain-log p s (w ∷ ws) = plain p s (callOf w) .status ∷ plain p s (callOf w) .command ∷ plain p s (callOf w) .response ∷ plain p s (callOf w) .turn ∷ plain-log p (plain p s (callOf w) .state) ws
+
+plainly : (p : Policy) (s : State) (c : Call) → stateRange p s ≡ true → answer p s c ≡ plain p s c
+unfolding answer plain tick
+plainly p s Tick e = ap ticked (on-true (stateRange p s) (tickOn p s) (record { status = 13; state = s; shown = silent }) e)
+plainly p s (Offer r) e = ap offered (offer-is p s e r)
+plainly p s Malformed e = refl
+
+plain-right : (p : Policy) (s : State) (ws : List ℕ) → stateRange p s ≡ true → logOf p s ws ≡ plain-log p s ws
+unfolding logOf answerTo plain-log
+plain-right p s [] e = refl
+plain-right p s (w ∷ ws) e =
+    let a = answer p s (callOf w) in
+    let rest = plain-right p (a .state) ws (answered-in-range p s w e) in
+    ap (λ (l : List ℕ). a .status ∷ a .command ∷ a .response ∷ a .turn ∷ l) rest
+    ∙ ap (λ (x : Answer). x .status ∷ x .command ∷ x .response ∷ x .turn ∷ plain-log p (x .state) ws) (plainly p s (callOf w) e)
+
+log-computed : Policy → List ℕ → List ℕ
+unfolding policy-computed plain plain-log ticks reads callOf isOffer requestOf wordOf classOf kindOf bankOf tagOf columnNumber commandNumber classFits bankAndKindFit offerOn offerStatus queuesAfter enqueue dequeue headOf lengthOf place waitingAt freshState stateAtStart emptyQueues nothingInFlight zeros silent afterTick tickOn turnsAt turnStarts turnNumber turnWord goesAt going canActivate drive answered dueAt sentAt activateAt activateNext activateKind gapMet gapsMetBy gapsMet offsetAllows activated first count size nth moved movedPointer named takesBy takes reachedAt endsAt tryClass charge goesOn reaches nextLeft firstClass elides leftAtStart ownedBy startTurn least leastIn flowsIn leastAt every member
+log-computed p ws = plain-log p (freshState p) ws
+
+-- every state reached from the fresh one of a policy in range is in range
+from-fresh : (p : Policy) → inRange p ≡ true → (ws : List ℕ) → logFrom p ws ≡ log-computed p ws
+unfolding logFrom log-computed
+from-fresh p given ws = plain-right p (freshState p) ws (in-range p (freshState p) (fresh-ranged p given))
+
+turns-computed : Policy → List ℕ → List ℕ
+unfolding log-computed turnsIn
+turns-computed p ws = turnsIn (length ws) (log-computed p ws)
+
+turns-from : (p : Policy) → inRange p ≡ true → (ws : List ℕ) → turnsFrom p ws ≡ turns-computed p ws
+unfolding turnsFrom turns-computed
+turns-from p given ws = ap (turnsIn (length ws)) (from-fresh p given ws)
+
+fits-alone : inRange alone ≡ true
+unfolding alone range-computed
+fits-alone = refl
+
+fits-pair : inRange pair ≡ true
+unfolding pair range-computed
+fits-pair = refl
+
+fits-fork : inRange fork ≡ true
+unfolding fork range-computed
+fits-fork = refl
+
+fits-chain : inRange chain ≡ true
+unfolding chain range-computed
+fits-chain = refl
+
+fits-printed : inRange (readFile (printed 0 2) .policy) ≡ true
+unfolding file-computed range-computed
+fits-printed = refl
+
+-- ---- the table
+
+also : {xs ys : List ℕ} → {xss yss : List (List ℕ)} → xs ≡ ys → xss ≡ yss → xs ∷ xss ≡ ys ∷ yss
+also e es = ap₂ (λ (l : List ℕ) (ls : List (List ℕ)). l ∷ ls) e es
+
+cases : map (λ (c : Case). c .yielded) table ≡ map (λ (c : Case). c .stated) table
+unfolding table alone pair fork chain turns-computed file-computed
+cases =
+    also (turns-from alone fits-alone (ticks 13))
+    (also (turns-from pair fits-pair (reads 3 0 ++ ticks 9))
+    (also (turns-from fork fits-fork (reads 5 0 ++ ticks 13))
+    (also (turns-from chain fits-chain (reads 3 0 ++ reads 3 1 ++ ticks 9))
+    (also (turns-from fork fits-fork (ticks 5))
+    (also (from-fresh alone fits-alone (reads 9 0 ++ ticks 1 ++ reads 1 0))
+    (also refl
+    (also (from-fresh (readFile (printed 0 2) .policy) fits-printed (0x80010007 ∷ 0 ∷ 0 ∷ 0 ∷ []))
+    refl)))))))
+
+-- ---- (a)
+
+a : (p : Policy) → inRange p ≡ true → p .classes ≡ 1 → (k : ℕ) (lengths left pointers : List ℕ) → (startTurn p k lengths left pointers .turns .owner ≡ 0) × (startTurn p k lengths left pointers .turns .elided ≡ true)
+unfolding startTurn ownedBy elides isClass isClassIn
+a p given one k lengths left pointers =
+    let laws = policy-laws p given in
+    let now = leftAtStart p k left in
+    let only : (c : ℕ) → isClass p c ≡ true → c ≡ 0 = λ c l. omega (arith, ltb-true c (p .classes) l, one) in
+    let reached = tryClass 16 (candidates (p .covers) lengths now) pointers (firstClass p k) in
+    let first = first-class p given k in
+    let owner = only (reached .owner) (laws .order .to-class (firstClass p k) (reached .owner) (ascends p given 16 lengths now pointers (firstClass p k) first)) in
+    let next = firstClass p (k + 1) in
+    (owner, reach-here (aheadOf p k (charge now (reached .owner)) (reached .pointers)) (reached .owner) 16 next (eq-eqb next (reached .owner) (only next (first-class p given (k + 1)) ∙ sym owner)))
+
+-- ---- (e)
+
+module _ (p : Policy) (given : inRange p ≡ true) (lengths left : List ℕ) (nobody : (c : ℕ) → getD lengths c 0 ≡ 0) where
+  -- a class that takes the turn though nobody waits has no cover
+  idle-takes : (c : ℕ) → takes (candidates (p .covers) lengths left) c ≡ true → coversOf p c ≡ 0
+  unfolding takes takesBy coversOf
+  idle-takes c t =
+      ⊎-elim
+      (λ w. absurd (not-both w (and-fails-left (not (eqb (getD lengths c 0) 0)) (not (eqb (getD left c 0) 0)) (ap not (eq-eqb (getD lengths c 0) 0 (nobody c))))))
+      (λ z. eqb-true (getD (p .covers) c 0) 0 z)
+      (or-cases (not (eqb (getD lengths c 0) 0) && not (eqb (getD left c 0) 0)) (eqb (getD (p .covers) c 0) 0) t)
+
+  idle-ends : (bound : ℕ) (pointers : List ℕ) (c : ℕ) → above p c ≤ bound → coversOf p (tryClass bound (candidates (p .covers) lengths left) pointers c .owner) ≡ 0
+  unfolding endsAt above
+  idle-ends =
+      let all = candidates (p .covers) lengths left in
+      let fewer = falls all (p .rows) (climbs p given) in
+      traverse all (λ bound pointers c r. above p c ≤ bound → coversOf p (r .owner) ≡ 0)
+      (λ pointers c h. ⊎-elim (idle-takes c) (λ t. absurd (not-suc-le-zero {n = 0} (omega (arith, fewer pointers c t, h)))) (either (takes all c)))
+      (λ bound pointers c t h. idle-takes c t)
+      (λ bound pointers c t next h. next (omega (arith, fewer pointers c t, h)))
+
+e : (p : Policy) → inRange p ≡ true → (k : ℕ) (lengths left pointers : List ℕ) → ((c : ℕ) → getD lengths c 0 ≡ 0) → coversOf p (startTurn p k lengths left pointers .turns .owner) ≡ 0
+unfolding startTurn ownedBy
+e p given k lengths left pointers nobody =
+    idle-ends p given lengths (leftAtStart p k left) nobody 16 pointers (firstClass p k) (le-of-lt (policy-laws p given .higher .few (firstClass p k)))
+
+pub worked-turns : WorkedTurns
+worked-turns = record { cases = cases; a = a; e = e }

@@ -12,7 +12,6 @@ use lib.Seq.{take-append-seam}
 use Rattle.policy.specs.Policy.{flows, isClass}
 use Rattle.policy.specs.Policy.{inRange as policyInRange}
 use Rattle.file.specs.File.{readFile}
-use Rattle.file.specs.Taken.{Bytes}
 use Rattle.policy.specs.declared.Policy.{Policy}
 use Rattle.basics.proofs.Truth.{either, not-both, on-true, on-false}
 use Rattle.policy.proofs.Laws.{policy-laws}

@@ -2,11 +2,11 @@
 -- Each record is a statement; `proofs/Laws.antt` proves it of every p with `inRange p ≡ true`, of which every policy that reading hands back is one.
 use mathlib.Core.Path.{_≡_}
 use mathlib.Core.Logic.{_↔_}
-use mathlib.Core.Bool.{Bool, true}
+use mathlib.Core.Bool.{true}
 use Prim.Native.Nat.{ℕ, _+_, _^_, _≤_, _<_}
 use lib.ListN.{length, getD}
 use Rattle.order.specs.Mask.{member}
-use Rattle.order.specs.Laws.{Reflexive, Antisymmetric, Transitive, Least}
+use Rattle.order.specs.Laws.{Reflexive, Least}
 use Rattle.policy.specs.Turns.{minimumsAbove}
 use Rattle.policy.specs.Policy.{isClass, flows, strictly, least, above, coversOf, coverCount, cover, cap}
 use Rattle.policy.specs.declared.Timing.{Timing}

@@ -12,11 +12,15 @@ use Rattle.policy.specs.declared.Policy.{Policy}
 use Rattle.basics.proofs.Stores.{written-more, four}
 use Rattle.state.specs.Range.{inRange}
 use Rattle.requests.specs.Trace.{callOf}
-use Rattle.rules.specs.Calls.{answer, answerTo, stateAfter, logOf, written}
+use Rattle.rules.specs.Calls.{Answer, answer, answerTo, stateAfter, logOf, lineWritten}
 use Rattle.state.specs.declared.State.{State}
 use Rattle.requests.specs.declared.Call.{Call}
 use Rattle.requests.specs.declared.Call.the-variants.{Tick, Offer, Malformed}
 use Rattle.rules.proofs.CallsKept.{offer-in-range, tick-in-range}
+
+-- a call's four numbers, written into a slice from a place on
+abbrev pub written : List ℕ → ℕ → Answer → List ℕ
+written log at a = lineWritten log at (a .status) (a .command) (a .response) (a .turn)
 
 module _ (p : Policy) where
   pub cut-state : (s : State) (xs ys : List ℕ) → stateAfter p s (xs ++ ys) ≡ stateAfter p (stateAfter p s xs) ys

@@ -3,19 +3,16 @@ use mathlib.Core.Bool.{true, false}
 use Prim.Native.Nat.{_+_}
 use lib.Dec.{ltb}
 use Rattle.policy.specs.declared.Policy.{Policy}
-use Rattle.policy.specs.Policy.{inRange as policyInRange}
 use Rattle.requests.specs.Sizes.{lastCycle}
 use Rattle.rules.specs.Queue.{offerStatus, queuesAfter}
 use Rattle.state.specs.Stored.{dueAt}
 use Rattle.rules.specs.Step.{turnsAt, Bus, drive, answered}
-use Rattle.state.specs.Fresh.{freshState, zeroState}
 use Rattle.state.specs.Range.{inRange}
 use Rattle.requests.specs.declared.Request.{Request}
 use Rattle.requests.specs.declared.Wires.the-variants.{Nothing}
 use Rattle.requests.specs.declared.Record.{Record}
 use Rattle.state.specs.declared.Turns.{Turns}
 use Rattle.state.specs.declared.State.{State}
-use Rattle.state.specs.declared.Made.{Made}
 use Rattle.state.specs.declared.Offered.{Offered}
 use Rattle.state.specs.declared.Ticked.{Ticked}
 

@@ -53,7 +53,3 @@ logOf p s (w ∷ ws) = lineOf (answerTo p s w) ++ logOf p (answerTo p s w .state
 -- four log numbers, written into a slice from a place on
 abbrev pub lineWritten : List ℕ → ℕ → ℕ → ℕ → ℕ → ℕ → List ℕ
 lineWritten log at status command response turn = set (set (set (set log at status) (at + 1) command) (at + 2) response) (at + 3) turn
-
--- those of a call's answer
-abbrev pub written : List ℕ → ℕ → Answer → List ℕ
-written log at a = lineWritten log at (a .status) (a .command) (a .response) (a .turn)

@@ -1,4 +1,4 @@
--- What the traversal and the lookahead rest on: rows and covers of one order, as in every policy in range (`proofs/TraversalLaws.antt`).
+-- What the traversal and the lookahead rest on: rows and covers of one order, as in every policy in range (`proofs/Traversal.antt`).
 use mathlib.Core.Path.{_≡_}
 use mathlib.Core.Bool.{true}
 use mathlib.Core.List.{List}

@@ -1,7 +1,7 @@
 -- The waiting requests: a queue for each class, of at most as many as its ring has places, oldest first. `Stored` (crate `state`) has how it is stored.
 use mathlib.Core.Bool.{true, false, cond}
 use mathlib.Core.List.{List}
-use Prim.Native.Nat.{ℕ, _+_, _-_, _*_, _%_}
+use Prim.Native.Nat.{ℕ, _+_, _-_, _%_}
 use lib.Dec.{ltb, eqb}
 use lib.ListN.{getD, set}
 use Rattle.state.specs.Stored.{headOf, lengthOf, place}

@@ -1,9 +1,8 @@
 -- What the functions that work in place are lent: the arrays of a policy, and those of a state with its other numbers. And what a call in place rests on, and leaves.
 use mathlib.Core.Path.{_≡_}
-use mathlib.Core.Bool.{Bool, true}
+use mathlib.Core.Bool.{true}
 use mathlib.Core.List.{List}
 use Prim.Native.Nat.{ℕ, _+_, _%_}
-use lib.ListN.{set}
 use Rattle.policy.specs.Policy.{least}
 use Rattle.policy.specs.Policy.{inRange as policyInRange}
 use Rattle.policy.specs.declared.Timing.{Timing}
@@ -16,7 +15,6 @@ use Rattle.scheduler.specs.declared.turning.Owned.{Owned}
 use Rattle.scheduler.specs.declared.ticking.Moment.{Moment}
 use Rattle.scheduler.specs.declared.ticking.Called.{Called}
 use Rattle.state.specs.declared.Queues.{Queues}
-use Rattle.state.specs.declared.Turns.{Turns}
 use Rattle.state.specs.declared.Flight.{Flight}
 use Rattle.state.specs.declared.State.{State}
 

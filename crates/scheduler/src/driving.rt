@@ -1,7 +1,7 @@
 // The command wires: a due column command, or an activate of the head of the owner's queue.
 
 ghost use mathlib.Core.Path.{_≡_};
-ghost use Prim.Native.Nat.{_%_, _≤_, _<_};
+ghost use Prim.Native.Nat.{_%_, _<_};
 ghost use lib.ListN.{getD};
 ghost use Rattle.policy.specs.Laws.{TimingLaws};
 ghost use Rattle.requests.specs.Sizes.{lastCycle, ringPlaces, bankCount};

@@ -1,9 +1,9 @@
 -- What 13 refuses of a state.
-use mathlib.Core.Bool.{Bool, false, _&&_, _||_}
+use mathlib.Core.Bool.{Bool, _&&_, _||_}
 use mathlib.Core.List.{List}
 use Prim.Native.Nat.{ℕ, _+_}
 use lib.Dec.{leb, ltb, eqb}
-use lib.ListN.{length, getD, replicate}
+use lib.ListN.{length, getD}
 use Rattle.basics.specs.Below.{every}
 use Rattle.policy.specs.Policy.{isClass, coverCount, cap}
 use Rattle.policy.specs.Policy.{inRange as policyInRange}

@@ -1,4 +1,4 @@
--- `policy::file::byte` meets its contract: past the end `getD` gives 0.
+-- `file::byte` meets its contract: past the end `getD` gives 0.
 -- Assumes nothing.
 use mathlib.Core.Path.{refl, sym}
 use borrow.Author.Needs.{needs}

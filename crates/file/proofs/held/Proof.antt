@@ -1,4 +1,4 @@
--- `policy::file::held` meets its contract: the definition, with what the callees promise.
+-- `file::held` meets its contract: the definition, with what the callees promise.
 -- Assumes nothing.
 use borrow.Author.Needs.{needs}
 use Rattle.file.specs.File.{classCount, epochOf, held}

@@ -1,4 +1,4 @@
--- `policy::file::kinds_fit` meets its contract: the definition, with what the callees promise.
+-- `file::kinds_fit` meets its contract: the definition, with what the callees promise.
 -- Assumes nothing.
 use borrow.Author.Needs.{needs}
 use Rattle.file.specs.File.{kindsFit, kind}

@@ -1,4 +1,4 @@
--- `policy::file::lengths_fit` meets its contract: the definition, with what the callees promise.
+-- `file::lengths_fit` meets its contract: the definition, with what the callees promise.
 -- Assumes nothing.
 use borrow.Author.Needs.{needs}
 use Rattle.policy.specs.Timing.{within}

@@ -1,4 +1,4 @@
--- `policy::file::minimum_at` meets its contract: each branch is the side of the definition that its test picks.
+-- `file::minimum_at` meets its contract: each branch is the side of the definition that its test picks.
 -- Assumes nothing.
 use mathlib.Core.Path.{ap, _∙_}
 use Prim.Native.Nat.{ℕ, _+_, _≤_, _<_}

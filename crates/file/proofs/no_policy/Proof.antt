@@ -1,4 +1,4 @@
--- `policy::file::no_policy` meets its contract: the definition, with what the callees promise.
+-- `file::no_policy` meets its contract: the definition, with what the callees promise.
 -- Assumes nothing.
 use Rattle.file.specs.File.{noPolicy}
 use Rattle.file.proofs.no_policy.Statement.{statement}

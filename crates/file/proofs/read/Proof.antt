@@ -1,4 +1,4 @@
--- `policy::file::read` meets its contract: each return has the number of the first test that failed, and the last the policy.
+-- `file::read` meets its contract: each return has the number of the first test that failed, and the last the policy.
 -- Assumes nothing.
 use mathlib.Core.Path.{_≡_, sym, ap, _∙_}
 use mathlib.Core.Bool.{true, false}

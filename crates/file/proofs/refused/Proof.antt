@@ -1,4 +1,4 @@
--- `policy::file::refused` meets its contract: the definition, with what the callees promise.
+-- `file::refused` meets its contract: the definition, with what the callees promise.
 -- Assumes nothing.
 use borrow.Author.Needs.{needs}
 use Rattle.file.specs.File.{refusedWith}

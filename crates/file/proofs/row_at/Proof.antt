@@ -1,4 +1,4 @@
--- `policy::file::row_at` meets its contract: each branch is the side of the definition that its test picks.
+-- `file::row_at` meets its contract: each branch is the side of the definition that its test picks.
 -- Assumes nothing.
 use Prim.Native.Nat.{_≤_, _<_}
 use native.Mathlib.Omega.{arith}

@@ -1,4 +1,4 @@
--- `policy::file::rows_of` meets its contract. The invariant: the entries below `i` are filled.
+-- `file::rows_of` meets its contract. The invariant: the entries below `i` are filled.
 -- Assumes nothing.
 use Prim.Native.Nat.{_-_}
 use borrow.Author.Needs.{needs}

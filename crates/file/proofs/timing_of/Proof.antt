@@ -1,4 +1,4 @@
--- `policy::file::timing_of` meets its contract: the definition, with what the callees promise.
+-- `file::timing_of` meets its contract: the definition, with what the callees promise.
 -- Assumes nothing.
 use borrow.Author.Needs.{needs}
 use Rattle.file.specs.File.{timingOf}

@@ -1,4 +1,4 @@
--- `policy::order::above_in` meets its contract: it is the size of the set.
+-- `order::above_in` meets its contract: it is the size of the set.
 -- Assumes nothing.
 use mathlib.Core.Path.{ap, _∙_}
 use borrow.Author.Needs.{needs}

@@ -1,4 +1,4 @@
--- `policy::order::above_set` meets its contract: the row without its own bit.
+-- `order::above_set` meets its contract: the row without its own bit.
 -- Assumes nothing.
 use mathlib.Core.Path.{ap₂, _∙_}
 use borrow.Author.Needs.{needs}

@@ -1,4 +1,4 @@
--- `policy::order::above_some` meets its contract. The invariant: what is found so far are the classes above some class of the set below `k`.
+-- `order::above_some` meets its contract. The invariant: what is found so far are the classes above some class of the set below `k`.
 -- Assumes nothing.
 use mathlib.Core.Path.{_≡_, sym, ap, ap₂, _∙_}
 use mathlib.Core.Logic.{⊎-elim}

@@ -1,4 +1,4 @@
--- `policy::order::antisymmetric_at` meets its contract. The invariant: the test passes at every number below `j`.
+-- `order::antisymmetric_at` meets its contract. The invariant: the test passes at every number below `j`.
 -- Assumes nothing.
 use mathlib.Core.Path.{sym, _∙_, ap, ap₂}
 use mathlib.Core.Bool.{not, _&&_}

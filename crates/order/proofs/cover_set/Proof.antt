@@ -1,4 +1,4 @@
--- `policy::order::cover_set` meets its contract: what is above the class and above nothing that is above it.
+-- `order::cover_set` meets its contract: what is above the class and above nothing that is above it.
 -- Assumes nothing.
 use mathlib.Core.Path.{ap, ap₂, _∙_}
 use borrow.Author.Needs.{needs}

@@ -1,4 +1,4 @@
--- `policy::order::flows_in` meets its contract: it is a member of the row.
+-- `order::flows_in` meets its contract: it is a member of the row.
 -- Assumes nothing.
 use borrow.Author.Needs.{needs}
 use Rattle.order.specs.Order.{flowsIn}

@@ -1,4 +1,4 @@
--- `policy::order::has_least` meets its contract: there is a least class exactly if the first such is a class.
+-- `order::has_least` meets its contract: there is a least class exactly if the first such is a class.
 -- Assumes nothing.
 use mathlib.Core.Path.{ap, _∙_}
 use Prim.Native.Nat.{ℕ}

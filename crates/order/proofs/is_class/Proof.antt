@@ -1,4 +1,4 @@
--- `policy::order::is_class` meets its contract: it is the definition.
+-- `order::is_class` meets its contract: it is the definition.
 -- Assumes nothing.
 use mathlib.Core.Path.{refl}
 use Rattle.order.specs.Order.{isClassIn}

@@ -1,4 +1,4 @@
--- `policy::order::is_transitive` meets its contract. The invariant: the test passes at every number below `i`.
+-- `order::is_transitive` meets its contract. The invariant: the test passes at every number below `i`.
 -- Assumes nothing.
 use Prim.Native.Nat.{_-_}
 use borrow.Author.Needs.{needs}

@@ -1,4 +1,4 @@
--- `policy::order::least_at` meets its contract: the definition, with what the callees promise.
+-- `order::least_at` meets its contract: the definition, with what the callees promise.
 -- Assumes nothing.
 use borrow.Author.Needs.{needs}
 use Rattle.order.specs.Order.{leastAt}

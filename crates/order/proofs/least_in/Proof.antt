@@ -1,4 +1,4 @@
--- `policy::order::least_in` meets its contract. The invariant: no class below `i` is the least.
+-- `order::least_in` meets its contract. The invariant: no class below `i` is the least.
 -- Assumes nothing.
 use mathlib.Core.Path.{sym, _∙_}
 use Prim.Native.Nat.{_-_}

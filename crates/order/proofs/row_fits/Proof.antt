@@ -1,4 +1,4 @@
--- `policy::order::row_fits` meets its contract: each branch is the side of the definition that its test picks.
+-- `order::row_fits` meets its contract: each branch is the side of the definition that its test picks.
 -- Assumes nothing.
 use mathlib.Core.Path.{sym, _∙_}
 use borrow.Author.Needs.{needs}

@@ -1,4 +1,4 @@
--- `policy::order::row_of` meets its contract: past the list's end `getD` gives 0.
+-- `order::row_of` meets its contract: past the list's end `getD` gives 0.
 -- Assumes nothing.
 use mathlib.Core.Path.{_≡_, sym}
 use Prim.Native.Nat.{_≤_}

@@ -1,4 +1,4 @@
--- `policy::order::strictly_in` meets its contract: the definition, with what `flows_in` promises.
+-- `order::strictly_in` meets its contract: the definition, with what `flows_in` promises.
 -- Assumes nothing.
 use borrow.Author.Needs.{needs}
 use Rattle.order.specs.Order.{strictlyIn}

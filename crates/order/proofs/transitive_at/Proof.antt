@@ -1,4 +1,4 @@
--- `policy::order::transitive_at` meets its contract. The invariant: the test passes at every number below `j`, for the row that `row_of` gave.
+-- `order::transitive_at` meets its contract. The invariant: the test passes at every number below `j`, for the row that `row_of` gave.
 -- Assumes nothing.
 use mathlib.Core.Path.{ap, _∙_}
 use mathlib.Core.Bool.{Bool, not, _||_}

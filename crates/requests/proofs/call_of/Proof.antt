@@ -1,4 +1,4 @@
--- `scheduler::trace::call_of` meets its contract: each return is the side of the definition that its tests pick.
+-- `requests::call_of` meets its contract: each return is the side of the definition that its tests pick.
 -- Assumes nothing.
 use mathlib.Core.Path.{sym, ap, _∙_}
 use borrow.Author.Needs.{needs}

@@ -10,11 +10,11 @@ use lib.ListN.{length, getD, set, take, drop, length-set}
 use lib.Seq.{take-all}
 use Rattle.policy.specs.declared.Policy.{Policy}
 use Rattle.state.specs.Range.{inRange}
-use Rattle.rules.specs.Calls.{Answer, answerTo, stateAfter, logOf, written}
+use Rattle.rules.specs.Calls.{Answer, answerTo, stateAfter, logOf}
 use Rattle.scheduler.specs.InPlace.{stateOf, Working}
 use Rattle.scheduler.specs.declared.ticking.Moment.{Moment}
 use Rattle.state.specs.declared.State.{State}
-use Rattle.rules.proofs.Calls.{answered-in-range, state-more, log-more}
+use Rattle.rules.proofs.Calls.{written, answered-in-range, state-more, log-more}
 use Rattle.scheduler.proofs.calls.Statement.{statement}
 use Rattle.scheduler.proofs.calls.Tie as tie
 

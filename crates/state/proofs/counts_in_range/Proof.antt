@@ -1,4 +1,4 @@
--- `scheduler::counts_in_range` meets its contract: the definition, with what the callee promises.
+-- `state::counts_in_range` meets its contract: the definition, with what the callee promises.
 -- Assumes nothing.
 use borrow.Author.Needs.{needs}
 use Rattle.policy.specs.Policy.{isClass}

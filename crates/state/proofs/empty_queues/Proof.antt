@@ -1,4 +1,4 @@
--- `scheduler::empty_queues` meets its contract: it is the definition.
+-- `state::empty_queues` meets its contract: it is the definition.
 -- Assumes nothing.
 use mathlib.Core.Path.{refl}
 use Rattle.state.specs.Fresh.{zeros, emptyQueues}

@@ -1,4 +1,4 @@
--- `scheduler::flight_in_range` meets its contract: the definition, with what the callees promise.
+-- `state::flight_in_range` meets its contract: the definition, with what the callees promise.
 -- Assumes nothing.
 use borrow.Author.Needs.{needs}
 use Rattle.state.specs.Range.{flightInRange}

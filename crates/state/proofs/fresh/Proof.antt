@@ -1,4 +1,4 @@
--- `scheduler::fresh` meets its contract: each return is the side of the definition that its test picks.
+-- `state::fresh` meets its contract: each return is the side of the definition that its test picks.
 -- Assumes nothing.
 use mathlib.Core.Path.{sym, ap, _∙_}
 use borrow.Author.Needs.{needs}

@@ -1,4 +1,4 @@
--- `scheduler::nothing_in_flight` meets its contract: it is the definition.
+-- `state::nothing_in_flight` meets its contract: it is the definition.
 -- Assumes nothing.
 use mathlib.Core.Path.{refl}
 use Rattle.state.specs.Fresh.{zeros, nothingInFlight}

@@ -1,4 +1,4 @@
--- `scheduler::state_at_start` meets its contract: the definition, with what the callees promise.
+-- `state::state_at_start` meets its contract: the definition, with what the callees promise.
 -- Assumes nothing.
 use borrow.Author.Needs.{needs}
 use Rattle.state.specs.Fresh.{zeros, stateAtStart}

@@ -1,4 +1,4 @@
--- `scheduler::state_in_range` meets its contract: the definition, with what the callees promise; that the state is shaped is what its types say.
+-- `state::state_in_range` meets its contract: the definition, with what the callees promise; that the state is shaped is what its types say.
 -- Assumes nothing.
 use mathlib.Core.Path.{_≡_, sym, _∙_}
 use mathlib.Core.Bool.{true, _&&_}

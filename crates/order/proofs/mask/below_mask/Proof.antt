@@ -1,4 +1,4 @@
--- `policy::mask::below_mask` meets its contract: below 16 the smaller of the number and 16 is the number, and from there on 16.
+-- `order::mask::below_mask` meets its contract: below 16 the smaller of the number and 16 is the number, and from there on 16.
 -- Assumes nothing.
 use mathlib.Core.Path.{_≡_, _∙_, ap}
 use Prim.Native.Nat.{ℕ, _-_, _^_, min}

@@ -1,4 +1,4 @@
--- `policy::mask::class_mask` meets its contract: the shift is the power of two, and each branch is the side of `classMask` that its test picks.
+-- `order::mask::class_mask` meets its contract: the shift is the power of two, and each branch is the side of `classMask` that its test picks.
 -- Assumes nothing.
 use mathlib.Core.Path.{_∙_}
 use borrow.Author.Needs.{needs}

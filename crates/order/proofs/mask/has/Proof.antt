@@ -1,4 +1,4 @@
--- `policy::mask::has` meets its contract: the test is the definition itself, and past 15 a 16-bit number has no bits.
+-- `order::mask::has` meets its contract: the test is the definition itself, and past 15 a 16-bit number has no bits.
 -- Assumes nothing.
 use mathlib.Core.Path.{refl, sym}
 use borrow.Author.Needs.{needs}

@@ -1,4 +1,4 @@
--- `policy::mask::includes` meets its contract: adding the part changes nothing exactly if it is there already.
+-- `order::mask::includes` meets its contract: adding the part changes nothing exactly if it is there already.
 -- Assumes nothing.
 use Rattle.order.proofs.Masks.{or-includes}
 use Rattle.order.proofs.mask.includes.Statement.{statement}

@@ -1,4 +1,4 @@
--- `policy::mask::nth` meets its contract. The invariant: the count is that of the members below `i`, and none of them has the number.
+-- `order::mask::nth` meets its contract. The invariant: the count is that of the members below `i`, and none of them has the number.
 -- Assumes nothing.
 use mathlib.Core.Path.{_≡_, sym, _∙_}
 use mathlib.Core.Logic.{⊎-elim}

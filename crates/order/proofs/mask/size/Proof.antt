@@ -1,4 +1,4 @@
--- `policy::mask::size` meets its contract. The invariant: the count is that of the members below `i`.
+-- `order::mask::size` meets its contract. The invariant: the count is that of the members below `i`.
 -- Assumes nothing.
 use mathlib.Core.Path.{_≡_, sym, ap, _∙_}
 use mathlib.Core.Logic.{⊎-elim}

@@ -1,4 +1,4 @@
--- `policy::mask::without` meets its contract: the part is added and then taken away.
+-- `order::mask::without` meets its contract: the part is added and then taken away.
 -- Assumes nothing.
 use Rattle.order.proofs.Masks.{without-is}
 use Rattle.order.proofs.mask.without.Statement.{statement}

@@ -1,4 +1,4 @@
--- `scheduler::words::bank_and_kind_fit` meets its contract: it is the definition.
+-- `requests::words::bank_and_kind_fit` meets its contract: it is the definition.
 -- Assumes nothing.
 use mathlib.Core.Path.{refl}
 use Rattle.requests.specs.Word.{bankAndKindFit}

@@ -1,4 +1,4 @@
--- `scheduler::words::class_fits` meets its contract: the definition, with what the callee promises.
+-- `requests::words::class_fits` meets its contract: the definition, with what the callee promises.
 -- Assumes nothing.
 use borrow.Author.Needs.{needs}
 use Rattle.requests.specs.Word.{classFits}

@@ -1,4 +1,4 @@
--- `scheduler::words::command_number` meets its contract, case by case.
+-- `requests::words::command_number` meets its contract, case by case.
 -- Assumes nothing.
 use mathlib.Core.Path.{_≡_, _∙_, ap, sym, subst}
 use mathlib.Core.Bool.{true}

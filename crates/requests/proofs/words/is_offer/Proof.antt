@@ -1,4 +1,4 @@
--- `scheduler::words::is_offer` meets its contract: it is the definition.
+-- `requests::words::is_offer` meets its contract: it is the definition.
 -- Assumes nothing.
 use mathlib.Core.Path.{refl}
 use Rattle.requests.specs.Word.{isOffer}

@@ -1,4 +1,4 @@
--- `scheduler::words::request_of` meets its contract: the definition, with what each field's function promises.
+-- `requests::words::request_of` meets its contract: the definition, with what each field's function promises.
 -- Assumes nothing.
 use borrow.Author.Needs.{needs}
 use Rattle.requests.specs.Word.{requestOf}

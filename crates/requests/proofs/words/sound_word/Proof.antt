@@ -1,4 +1,4 @@
--- `scheduler::words::sound_word` meets its contract: the definition, with what the callees promise.
+-- `requests::words::sound_word` meets its contract: the definition, with what the callees promise.
 -- Assumes nothing.
 use borrow.Author.Needs.{needs}
 use Rattle.requests.specs.Word.{soundWord}

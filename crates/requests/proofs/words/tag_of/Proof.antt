@@ -1,4 +1,4 @@
--- `scheduler::words::tag_of` meets its contract: it is the definition, and a remainder by 65,536 has 16 bits.
+-- `requests::words::tag_of` meets its contract: it is the definition, and a remainder by 65,536 has 16 bits.
 -- Assumes nothing.
 use mathlib.Core.Path.{refl}
 use borrow.Author.Needs.{needs}

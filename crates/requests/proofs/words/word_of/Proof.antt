@@ -1,4 +1,4 @@
--- `scheduler::words::word_of` meets its contract: it is the definition, whose last field is the tag itself, since a tag has 16 bits.
+-- `requests::words::word_of` meets its contract: it is the definition, whose last field is the tag itself, since a tag has 16 bits.
 -- Assumes nothing.
 use native.Mathlib.Omega.{arith}
 use borrow.Author.Needs.{needs}

@@ -1,4 +1,4 @@
--- `scheduler::range::activate_in_range` meets its contract: it is the definition.
+-- `state::range::activate_in_range` meets its contract: it is the definition.
 -- Assumes nothing.
 use borrow.Author.Needs.{needs}
 use Rattle.state.specs.Range.{activateInRange}

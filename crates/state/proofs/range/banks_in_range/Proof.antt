@@ -1,4 +1,4 @@
--- `scheduler::range::banks_in_range` meets its contract. The invariant: the test passes at every number below `bank`.
+-- `state::range::banks_in_range` meets its contract. The invariant: the test passes at every number below `bank`.
 -- Assumes nothing.
 use mathlib.Core.Bool.{Bool}
 use mathlib.Core.List.{List}

@@ -1,4 +1,4 @@
--- `scheduler::range::pending_in_range` meets its contract. The invariant: the test passes at every number below `after`.
+-- `state::range::pending_in_range` meets its contract. The invariant: the test passes at every number below `after`.
 -- Assumes nothing.
 use mathlib.Core.Path.{ap}
 use mathlib.Core.Bool.{Bool, _&&_, _||_}

@@ -1,4 +1,4 @@
--- `scheduler::range::queue_in_range` meets its contract: each early return is a test of the definition that fails.
+-- `state::range::queue_in_range` meets its contract: each early return is a test of the definition that fails.
 -- Assumes nothing.
 use borrow.Author.Needs.{needs}
 use borrow.Author.Tests.{le-leb, lt-leb, lt-ltb, le-ltb}

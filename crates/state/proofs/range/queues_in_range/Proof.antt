@@ -1,4 +1,4 @@
--- `scheduler::range::queues_in_range` meets its contract. The invariant: the test passes at every number below `class`.
+-- `state::range::queues_in_range` meets its contract. The invariant: the test passes at every number below `class`.
 -- Assumes nothing.
 use mathlib.Core.Bool.{Bool}
 use mathlib.Core.List.{List}

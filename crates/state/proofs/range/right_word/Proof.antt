@@ -1,4 +1,4 @@
--- `scheduler::range::right_word` meets its contract: the definition, with what the callees promise.
+-- `state::range::right_word` meets its contract: the definition, with what the callees promise.
 -- Assumes nothing.
 use borrow.Author.Needs.{needs}
 use Rattle.state.specs.Range.{rightWord}

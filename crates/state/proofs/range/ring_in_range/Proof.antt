@@ -1,4 +1,4 @@
--- `scheduler::range::ring_in_range` meets its contract. The invariant: the test passes at every number below `k`.
+-- `state::range::ring_in_range` meets its contract. The invariant: the test passes at every number below `k`.
 -- Assumes nothing.
 use mathlib.Core.Path.{_≡_, ap, _∙_}
 use mathlib.Core.Bool.{Bool, _||_}

@@ -1,4 +1,4 @@
--- `scheduler::range::turns_in_range` meets its contract. The invariant: the test passes at every number below `class`.
+-- `state::range::turns_in_range` meets its contract. The invariant: the test passes at every number below `class`.
 -- Assumes nothing.
 use mathlib.Core.Path.{ap}
 use mathlib.Core.Bool.{Bool, _&&_}

@@ -1,4 +1,4 @@
--- `scheduler::driving::activate_next` meets its contract: it is the definition.
+-- `state::stored::activate_next` meets its contract: it is the definition.
 -- Assumes nothing.
 use mathlib.Core.Path.{refl}
 use Rattle.state.specs.Stored.{activateNext}

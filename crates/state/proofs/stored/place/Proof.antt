@@ -1,8 +1,6 @@
 -- `state::stored::place` meets its contract: numbers modulo 8 have the sum of the numbers modulo 8.
 -- Assumes nothing.
-use mathlib.Core.Path.{refl}
 use native.Mathlib.Omega.{arith}
-use borrow.Author.Needs.{needs}
 use Rattle.state.specs.Stored.{place}
 use Rattle.state.proofs.stored.place.Statement.{statement}
 use Rattle.state.proofs.stored.place.Tie as tie

@@ -1,0 +1,146 @@
+"""Finds the proved library and the proved program, and builds what is missing or older than its sources. Progress goes to standard error: which crate, how far, how long.
+Where they are built already the Rattle kit is not needed."""
+
+import hashlib
+import shutil
+import subprocess
+import sys
+import threading
+import time
+from pathlib import Path
+
+from .errors import Wrong
+from .library import Library
+
+ROOT = Path(__file__).resolve().parents[2]
+BUILT = ROOT / "target" / "vig"
+SHARED = BUILT / "libvigambul.so"
+PROGRAM = BUILT / "vigambul"
+STAMP = BUILT / "sources"
+CRATES = ("capi", "vigambul")
+
+
+def dependencies():
+    """The crates of the repository with those that each rests on."""
+    found = {}
+    for line in (ROOT / "crates.txt").read_text().splitlines():
+        name, colon, rest = line.partition("#")[0].partition(":")
+        if colon:
+            found[name.strip()] = rest.split()
+    return {name: [other for other in rests if other in found] for name, rests in found.items()}
+
+
+def needed():
+    """The crates that the library and the program rest on, and these two."""
+    rests, todo, reached = dependencies(), list(CRATES), []
+    while todo:
+        name = todo.pop()
+        if name not in reached:
+            reached.append(name)
+            todo += rests[name]
+    return sorted(reached)
+
+
+def sources():
+    """A fingerprint of the sources of what is needed."""
+    digest = hashlib.sha256((ROOT / "crates.txt").read_bytes())
+    for name in needed():
+        for path in sorted((ROOT / "crates" / name).rglob("*")):
+            if path.suffix in (".rt", ".antt"):
+                digest.update(str(path.relative_to(ROOT)).encode() + b"\0" + path.read_bytes() + b"\0")
+    return digest.hexdigest()
+
+
+class Progress:
+    """Says on standard error what is being built. On a terminal one line is written over and over; else each step is a line."""
+
+    def __init__(self, total):
+        self.total, self.done, self.doing, self.began = total, 0, "the crates", time.monotonic()
+        self.over = threading.Event()
+        self.terminal = sys.stderr.isatty()
+        self.ticker = threading.Thread(target=self._tick, daemon=True)
+        self.ticker.start()
+
+    def _tick(self):
+        while not self.over.wait(0.5):
+            if self.terminal:
+                self._show()
+
+    def _show(self):
+        sys.stderr.write("\r\033[Kproving %s: %d of %d crates, %d s" % (self.doing, self.done, self.total, time.monotonic() - self.began))
+        sys.stderr.flush()
+
+    def step(self, what):
+        self.done += 1
+        if self.terminal:
+            self._show()
+        else:
+            print("%d of %d crates: %s, %d s in all" % (self.done, self.total, what, time.monotonic() - self.began), file=sys.stderr)
+
+    def end(self):
+        self.over.set()
+        self.ticker.join()
+        if self.terminal:
+            sys.stderr.write("\r\033[K")
+
+
+def _rt(words, progress, log):
+    """Runs rt, hands its 'proved' lines to the progress, and keeps what it says."""
+    with subprocess.Popen(["rt", *words], cwd=ROOT, stdin=subprocess.DEVNULL, stdout=subprocess.PIPE, stderr=subprocess.STDOUT, text=True) as run:
+        for line in run.stdout:
+            log.write(line)
+            if progress and line.startswith("rt: ") and " proved (" in line:
+                progress.step(line[len("rt: ") :].strip())
+    if run.returncode != 0:
+        raise Wrong("rt %s failed; %s has what it said" % (" ".join(words), log.name))
+
+
+def _build():
+    if shutil.which("rt") is None:
+        raise Wrong("the proved library is not built, and the Rattle kit's command rt is not on the path")
+    if shutil.which("gcc") is None:
+        raise Wrong("gcc is not on the path: it links the proved library")
+    print("building the proved library and program, some minutes the first time", file=sys.stderr)
+    BUILT.mkdir(parents=True, exist_ok=True)
+    fingerprint = sources()
+    progress = Progress(len(needed()))
+    try:
+        with open(BUILT / "build.log", "w") as log:
+            _rt(["check", *CRATES], progress, log)
+            progress.doing = "nothing more, linking the library"
+            _rt(["staticlib", "capi"], None, log)
+            archive = ROOT / "target" / "staticlib" / "libcapi.a"
+            link = ["gcc", "-shared", "-o", SHARED, "-Wl,--whole-archive", archive, "-Wl,--no-whole-archive"]
+            if subprocess.run(link, stdout=log, stderr=log, check=False).returncode != 0:
+                raise Wrong("gcc could not link %s; %s has what it said" % (archive, log.name))
+    finally:
+        progress.end()
+    shutil.copy2(ROOT / "target" / "bin" / "vigambul", PROGRAM)
+    STAMP.write_text(fingerprint + "\n")
+
+
+def ensure():
+    """Builds the library and the program unless they are there and as new as their sources."""
+    there = SHARED.is_file() and PROGRAM.is_file()
+    if there and STAMP.is_file() and STAMP.read_text().strip() == sources():
+        return
+    if there and shutil.which("rt") is None:
+        print("vig: the sources are newer than the built library, and rt is not on the path: the library is used as it is", file=sys.stderr)
+        return
+    _build()
+
+
+def library():
+    """The proved library, built where it is missing."""
+    ensure()
+    return Library(SHARED)
+
+
+def program():
+    """The path of the proved program, built where it is missing."""
+    ensure()
+    return PROGRAM
+
+
+if __name__ == "__main__":
+    ensure()

@@ -1,0 +1,150 @@
+"""A policy file as a value: its three bodies, its bytes, and the names of its classes. Whether a file is taken is the proved reader's answer; what is worked out here
+(caps, covers) is for showing alone."""
+
+import re
+from dataclasses import dataclass, field
+from pathlib import Path
+
+from .errors import Wrong
+from .formats import CLASSES
+
+# The timing body's bytes in order: a key for texts, and words.
+TIMING = (
+    ("turn", "turn length"),
+    ("dead", "dead time"),
+    ("read_read", "gap read-read"),
+    ("read_write", "gap read-write"),
+    ("write_read", "gap write-read"),
+    ("write_write", "gap write-write"),
+    ("bank_read", "same-bank gap after a read"),
+    ("bank_write", "same-bank gap after a write"),
+    ("column", "column delay"),
+    ("answer", "answer delay"),
+)
+TIMING_KEYS = tuple(key for key, _ in TIMING)
+BODIES_START = 16
+ENTRY_KINDS = ("order", "turns", "timing")
+
+
+@dataclass
+class Policy:
+    """The numbers of a policy. Row i has bit j set if class i may flow to class j."""
+
+    rows: list
+    epoch: int
+    minimums: list
+    timing: list
+
+    @property
+    def classes(self):
+        return len(self.rows)
+
+    def flows(self, i, j):
+        return self.rows[i] >> j & 1 == 1
+
+    def above(self, i):
+        """The classes strictly above class i."""
+        return [j for j in range(self.classes) if j != i and self.flows(i, j)]
+
+    def below(self, i):
+        """The classes strictly below class i."""
+        return [j for j in range(self.classes) if j != i and self.flows(j, i)]
+
+    def covers(self, i):
+        """The classes directly above class i. Document 01: its children."""
+        above = self.above(i)
+        return [j for j in above if not any(k != j and self.flows(k, j) for k in above)]
+
+    def cap(self, i):
+        """The turns that class i may take in an epoch."""
+        return self.epoch - sum(self.minimums[j] for j in self.above(i))
+
+    @property
+    def least(self):
+        """The class that may flow to all, or None."""
+        return next((i for i in range(self.classes) if all(self.flows(i, j) for j in range(self.classes))), None)
+
+    @property
+    def turn(self):
+        return self.timing[0]
+
+    @property
+    def dead(self):
+        return self.timing[1]
+
+    @property
+    def column_delay(self):
+        return self.timing[8]
+
+    @property
+    def answer_delay(self):
+        return self.timing[9]
+
+    def to_bytes(self):
+        """The file. Numbers that do not fit their bytes are an error of the caller's."""
+        order = bytes([self.classes]) + b"".join(row.to_bytes(2, "little") for row in self.rows)
+        turns = bytes([self.epoch]) + bytes(self.minimums)
+        timing = bytes(self.timing)
+        table, start = bytes([len(ENTRY_KINDS)]), BODIES_START
+        for kind, body in enumerate((order, turns, timing), 1):
+            table += bytes([kind]) + start.to_bytes(2, "little") + len(body).to_bytes(2, "little")
+            start += len(body)
+        return table + order + turns + timing
+
+
+def policy_of(data):
+    """The policy of a file that the proved reader has taken."""
+    n = data[BODIES_START]
+    rows_at = BODIES_START + 1
+    turns_at = rows_at + 2 * n
+    timing_at = turns_at + 1 + n
+    rows = [int.from_bytes(data[rows_at + 2 * i : rows_at + 2 * i + 2], "little") for i in range(n)]
+    return Policy(rows, data[turns_at], list(data[turns_at + 1 : timing_at]), list(data[timing_at : timing_at + len(TIMING)]))
+
+
+NAME = re.compile(r"[A-Za-z_][A-Za-z0-9_-]{0,31}\Z")
+
+
+@dataclass
+class Names:
+    """The names of classes. A class without one is called by its number."""
+
+    by_number: dict = field(default_factory=dict)
+
+    def of(self, number):
+        return self.by_number.get(number, "class %d" % number)
+
+    def number(self, name, classes=CLASSES):
+        """The class of a name, or of a number written out."""
+        for number, known in self.by_number.items():
+            if known == name:
+                return number
+        if name.isdecimal() and int(name) < classes:
+            return int(name)
+        known = ", ".join(self.of(number) for number in range(classes))
+        raise Wrong("%s: no class of this policy; its classes are %s" % (name, known))
+
+    def width(self, classes):
+        return max(len(self.of(number)) for number in range(classes))
+
+    def text(self):
+        return "".join("%d %s\n" % item for item in sorted(self.by_number.items()))
+
+
+def names_beside(policy_path):
+    """The names kept beside a policy file: policy.names for policy.bin. Without that file there are none."""
+    path = Path(policy_path).with_suffix(".names")
+    if not path.is_file():
+        return Names()
+    names = Names()
+    for place, line in enumerate(path.read_text().splitlines(), 1):
+        words = line.split()
+        if not words or words[0].startswith("#"):
+            continue
+        if len(words) != 2 or not words[0].isdecimal() or int(words[0]) >= CLASSES or not NAME.match(words[1]):
+            raise Wrong("%s, line %d: %r is not a class number and its name, as in '0 base'" % (path, place, line))
+        number, name = int(words[0]), words[1]
+        if number in names.by_number or name in names.by_number.values():
+            raise Wrong("%s, line %d: class %d or the name %s stands there twice" % (path, place, number, name))
+        names.by_number[number] = name
+    return names

@@ -1,0 +1,60 @@
+"""Requests, turns, refusals and whole calls in words, with the classes' names."""
+
+from .formats import CLASSES, KINDS, REFUSALS, is_column, is_elided, is_offer, is_tick, owner_of, request_of, starts_turn
+
+
+def request_words(word, names):
+    """A request: its class, kind, bank and tag. Numbers that no request may have are shown as they are."""
+    request = request_of(word)
+    kind = KINDS[request.kind] if request.kind < len(KINDS) else "kind %d" % request.kind
+    return "%s %s bank %d tag %d" % (names.of(request.owner), kind, request.bank, request.tag)
+
+
+def command_words(command, names):
+    if command == 0:
+        return "nothing"
+    return "%s %s" % ("column" if is_column(command) else "activate", request_words(command, names))
+
+
+def turn_words(turn, names):
+    """A turn number: whose turn starts, and its dead time. An extract hides the turns of others."""
+    owner = owner_of(turn)
+    if not 0 <= owner < CLASSES:
+        return "turn of a class that may not be seen"
+    return "turn of %s, dead time %s" % (names.of(owner), "dropped" if is_elided(turn) else "kept")
+
+
+def refusal_words(status):
+    """A call's refusal: its number, and when it is given."""
+    return "refused %d: %s" % (status, REFUSALS[status].when if status in REFUSALS else "no such number")
+
+
+def trace_words(word, names):
+    """A trace number by itself."""
+    if is_tick(word):
+        return "tick"
+    if is_offer(word):
+        return "offer %s" % request_words(word, names)
+    return "malformed %08X" % word
+
+
+def tick_words(command, response, turn, names):
+    """What a tick shows; empty where it shows nothing."""
+    parts = []
+    if starts_turn(turn):
+        parts.append(turn_words(turn, names))
+    if command:
+        parts.append(command_words(command, names))
+    if response:
+        parts.append("answer %s" % request_words(response, names))
+    return "; ".join(parts)
+
+
+def call_words(call, names):
+    """A call and what it showed, as in 'cycle 4: turn of red, dead time kept; activate red read bank 3 tag 1'."""
+    where = "cycle %d" % call.cycle
+    if call.status != 0:
+        return "%s: %s: %s" % (where, trace_words(call.word, names), refusal_words(call.status))
+    if is_tick(call.word):
+        return "%s: %s" % (where, tick_words(call.command, call.response, call.turn, names) or "nothing")
+    return "%s: %s: taken" % (where, trace_words(call.word, names))

@@ -7,10 +7,35 @@ the modules here turn texts into their files and their numbers into words, table
 | `errors` | what ends a command early, with its exit status |
 | `formats` | words, log lines, turn numbers and refusal numbers |
 | `policies` | a policy file as a value, its bytes, and the names of its classes |
+| `policy_text` | a policy as TOML, read and written |
+| `policy_ranges` | the ranges of a policy's numbers, for telling which is out |
+| `policy_show` | any file taken apart as a policy file, byte by byte |
+| `sign_off` | what a policy means: flows, minimums and caps, timing |
+| `minimums` | what a minimum does and does not guarantee, under the rules in force |
+| `order_drawing` | the order of a policy as a drawing |
+| `clock` | times turned into cycles |
+| `toml_text` | TOML texts: the lines of keys, and mistakes told all at once |
 | `folders` | a folder with policy.bin and trace.bin |
 | `build` | builds the library and the program where they are missing |
 | `library` | the proved library |
 | `words` | calls, requests, turns and refusals in words |
-| `history` | a log told cycle by cycle: turns, epochs, requests, queue lengths, turns left |
+| `traffic` | what the two traffic texts share, and the trace made of them |
+| `traffic_csv` | traffic as CSV, read and written |
+| `traffic_streams` | traffic as TOML with streams |
+| `trace_words` | a trace in words |
+| `draws` | random choices that stay the same |
+| `purge` | what of a trace a class may know |
+| `blind` | two traces side by side: the premise, and two extracts |
+| `blind_search` | random pairs of traces that agree for a class |
+| `history` | a log told from its start on: calls with their cycles, turns, requests, queue lengths, turns left |
+| `figures`, `report` | the service figures of runs, and their report as table, CSV and JSON |
+| `waveform` | a run as a value change dump, with a GTKWave save file |
+| `picture` | a run as a picture |
+| `tables` | aligned tables as text |
+| `lines` | lines of a log as numbers, many at a time |
+| `recorded` | a recorded log of a hardware block, in its two forms |
+| `streak` | the model's log against a recorded one |
+| `ledger` | the comparisons so far, and the streak |
+| `regression` | many folders, each against its expected.txt |
 | `commands/` | a module for each command |
 """

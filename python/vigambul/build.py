@@ -1,6 +1,7 @@
 """Finds the proved library and the proved program, and builds what is missing or older than its sources. Progress goes to standard error: which crate, how far, how long.
 Where they are built already the Rattle kit is not needed."""
 
+import functools
 import hashlib
 import shutil
 import subprocess
@@ -119,8 +120,9 @@ def _build():
     STAMP.write_text(fingerprint + "\n")
 
 
+@functools.cache
 def ensure():
-    """Builds the library and the program unless they are there and as new as their sources."""
+    """Builds the library and the program unless they are there and as new as their sources; looks once in a process."""
     there = SHARED.is_file() and PROGRAM.is_file()
     if there and STAMP.is_file() and STAMP.read_text().strip() == sources():
         return

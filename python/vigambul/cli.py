@@ -5,6 +5,7 @@ import argparse
 import importlib
 import os
 import sys
+from functools import cache
 
 from .errors import Stop
 
@@ -12,16 +13,26 @@ from .errors import Stop
 COMMANDS = ("policy", "trace", "run", "extract", "blind", "report", "streak", "vcd", "picture", "regress")
 
 
+class Help(argparse.RawDescriptionHelpFormatter):
+    """Keeps a text of several lines, such as an example, as it is written, and fills one of a single line."""
+
+    def _fill_text(self, text, width, indent):
+        kept = argparse.RawDescriptionHelpFormatter if "\n" in text else argparse.HelpFormatter
+        return kept._fill_text(self, text, width, indent)
+
+
 class Parser(argparse.ArgumentParser):
     """A parser whose help keeps its example as it is written."""
 
     def __init__(self, *words, **options):
-        options.setdefault("formatter_class", argparse.RawDescriptionHelpFormatter)
+        options.setdefault("formatter_class", Help)
         super().__init__(*words, **options)
 
 
+@cache
 def parser():
     top = Parser(prog="vig", description=__import__("vigambul").__doc__.split("\n\n")[0].split(".")[0] + ".", epilog="vig COMMAND --help has an example of each.")
+    top.add_argument("--ledger", metavar="F", help="without a command, the start screen shows the streak of this ledger (vig-ledger.jsonl in the current folder, if not given)")
     commands = top.add_subparsers(metavar="COMMAND", dest="command", parser_class=Parser)
     for name in COMMANDS:
         importlib.import_module("vigambul.commands." + name).add(commands)

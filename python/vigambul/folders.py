@@ -1,5 +1,6 @@
 """A folder with policy.bin and trace.bin, as the program takes it. What is missing is an error with its name."""
 
+from contextlib import contextmanager
 from dataclasses import dataclass
 from pathlib import Path
 
@@ -28,7 +29,17 @@ def write_file(path, data):
         if isinstance(data, bytes):
             path.write_bytes(data)
         else:
-            path.write_text(data)
+            path.write_text(data, encoding="utf-8")
+    except OSError as error:
+        raise Wrong("%s: %s" % (path, error.strerror)) from None
+
+
+@contextmanager
+def writing(path):
+    """A file that is written bit by bit, as text."""
+    try:
+        with open(path, "w", encoding="utf-8") as file:
+            yield file
     except OSError as error:
         raise Wrong("%s: %s" % (path, error.strerror)) from None
 
@@ -42,6 +53,11 @@ class Folder:
     trace: object
     left_over: int
     names: Names
+
+    @property
+    def name(self):
+        """The folder's own name, without the way to it."""
+        return self.path.resolve().name
 
 
 def folder_at(path):
@@ -80,3 +96,11 @@ def run_folder(library, folder):
     if status != 0:
         raise Refused("%s: %s" % (folder.path / "policy.bin", refusal_words(status)))
     return Ran(folder, policy_of(folder.policy_bytes), log)
+
+
+def extract_of(library, ran, number):
+    """The numbers that a class may see of a run's log, by the proved extract."""
+    status, out = library.extract(ran.folder.policy_bytes, number, ran.trace, ran.log)
+    if status != 0:
+        raise Refused("extract refused %d: %s" % (status, REFUSALS[status].when))
+    return out

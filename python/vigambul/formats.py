@@ -2,6 +2,7 @@
 
 from array import array
 from dataclasses import dataclass
+from typing import NamedTuple
 
 CLASSES = 16
 BANKS = 8
@@ -15,12 +16,15 @@ OFFER_BITS = OFFER | 0x1F << 24 | 0x3 << 20 | 0xF << 16 | 0xFFFF
 ELIDED = 256
 HIDDEN = 512
 
+# The numbers of an offer whose class has all its places taken, and of a tick after the last one.
+QUEUE_FULL = 11
+TICKS_OVER = 12
+
 HEADER = "status command answer turn"
 KINDS = ("read", "write")
 
 
-@dataclass(frozen=True)
-class Request:
+class Request(NamedTuple):
     """What an offer, a command and an answer carry."""
 
     owner: int
@@ -33,9 +37,14 @@ class Request:
         return OFFER | self.owner << 24 | self.kind << 20 | self.bank << 16 | self.tag
 
 
+def class_of(word):
+    """The class of a request's word."""
+    return word >> 24 & 0x1F
+
+
 def request_of(word):
     """The request of an offer's, a command's or an answer's word."""
-    return Request(word >> 24 & 0x1F, word >> 20 & 0x3, word >> 16 & 0xF, word & 0xFFFF)
+    return Request(class_of(word), word >> 20 & 0x3, word >> 16 & 0xF, word & 0xFFFF)
 
 
 def is_tick(word):
@@ -76,7 +85,10 @@ def words_of(data):
 
 
 def bytes_of(words):
-    return b"".join(word.to_bytes(4, "little") for word in words)
+    """The bytes of a trace file."""
+    numbers, _ = words_of(b"")
+    numbers.extend(words)
+    return numbers.tobytes()
 
 
 def line_of(numbers):

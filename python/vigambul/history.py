@@ -1,14 +1,13 @@
-"""A log told cycle by cycle: the calls with their cycles, the turns and epochs, each request from its offer to its answer, queue lengths and turns left. Everything is read
-off the trace and the log; no rule of the scheduler is worked out here again."""
+"""A log told from its start on: the calls with their cycles, and what they did: turns, requests from their offers to their answers, queue lengths, turns left. Everything is
+read off the trace and the log; no rule of the scheduler is worked out here again. A trace may have 17,000,000 numbers: nothing is kept for each."""
 
 from collections import deque
-from dataclasses import dataclass
+from typing import NamedTuple
 
-from .formats import is_column, is_elided, is_offer, is_tick, owner_of, request_of, starts_turn
+from .formats import COLUMN, TICKS_OVER, class_of, is_column, is_elided, is_offer, is_tick, owner_of
 
 
-@dataclass(frozen=True)
-class Call:
+class Call(NamedTuple):
     """A trace number and its four log numbers. Its cycle is the tick's, or, of an offer or a malformed word, that of the next tick."""
 
     place: int
@@ -33,119 +32,131 @@ class Call:
         return self.status, self.command, self.response, self.turn
 
 
-@dataclass
-class Turn:
-    """A turn from its first cycle to the last that was ticked."""
-
-    number: int
-    owner: int
-    elided: bool
-    first: int
-    last: int
-    activates: int = 0
-    # Whether a request of the owner's waited when the turn started.
-    waited: bool = False
+def lines_of(trace, log):
+    """Each trace number with its four log numbers."""
+    numbers = iter(log)
+    return zip(trace, numbers, numbers, numbers, numbers)
 
 
-@dataclass
-class Life:
-    """A request from its offer on. A cycle that did not come is None."""
-
-    word: int
-    offered: int
-    activated: int = None
-    column: int = None
-    answered: int = None
-
-    @property
-    def wait(self):
-        """From the cycle next to be ticked at the offer to the cycle of the answer."""
-        return None if self.answered is None else self.answered - self.offered
+def ticks_of(trace, log):
+    """How many ticks were made: all but those refused, which have a number of their own."""
+    return trace.count(0) - log[0::4].count(TICKS_OVER)
 
 
 def calls_of(trace, log):
     """The calls of a run, one after the other."""
     cycle = 0
-    for place, word in enumerate(trace):
-        call = Call(place, word, cycle, *log[4 * place : 4 * place + 4])
+    for place, (word, status, command, response, turn) in enumerate(lines_of(trace, log)):
+        call = Call(place, word, cycle, status, command, response, turn)
         yield call
         if call.ticks:
             cycle += 1
 
 
-class History:
-    """A run's log replayed. `turns` are all turns, `lives` the requests that were taken, by class, in the order of their offers, `refused` the calls that were not made;
-    `ticks` is the number of cycles. The calls themselves are not kept: a trace may have 17,000,000. `replay` goes through them once more."""
-
-    def __init__(self, ran):
-        self.ran, self.policy, self.names = ran, ran.policy, ran.names
-        for _ in self.replay():
-            pass
-
-    def replay(self):
-        """Goes through the calls; beside each the state of things after it: queue lengths, turns left, the turn under way."""
-        moment = Moment(self.policy)
-        self.turns, self.refused, self.ticks = [], [], 0
-        self.lives = [[] for _ in range(self.policy.classes)]
-        waiting = [deque() for _ in range(self.policy.classes)]
-        flying = deque()
-        for call in calls_of(self.ran.trace, self.ran.log):
-            if call.status != 0:
-                self.refused.append(call)
-            elif call.offers:
-                life = Life(call.word, call.cycle)
-                owner = request_of(call.word).owner
-                self.lives[owner].append(life)
-                waiting[owner].append(life)
-                moment.lengths[owner] += 1
-            elif call.ticks:
-                self.ticks += 1
-                self._tick(call, moment, waiting, flying)
-            yield call, moment
-
-    def _tick(self, call, moment, waiting, flying):
-        if starts_turn(call.turn):
-            moment.start(call)
-            turn = Turn(moment.number, moment.owner, moment.elided, call.cycle, call.cycle)
-            turn.waited = moment.lengths[moment.owner] > 0
-            self.turns.append(turn)
-        self.turns[-1].last = call.cycle
-        if call.command and is_column(call.command):
-            life = next(life for life in flying if life.column is None)
-            life.column = call.cycle
-        elif call.command:
-            owner = request_of(call.command).owner
-            life = next(life for life in waiting[owner] if life.word == call.command)
-            waiting[owner].remove(life)
-            life.activated = call.cycle
-            flying.append(life)
-            moment.lengths[owner] -= 1
-            self.turns[-1].activates += 1
-        if call.response:
-            flying.popleft().answered = call.cycle
-
-    @property
-    def epochs(self):
-        """The turns by epoch."""
-        by_epoch = {}
-        for turn in self.turns:
-            by_epoch.setdefault(turn.number // self.policy.epoch, []).append(turn)
-        return list(by_epoch.values())
-
-
-class Moment:
-    """How things stand after a call: the queues' lengths and the turns left, by class, and the turn under way."""
+class Replay:
+    """Goes through a run once and tells what happens by the methods from `refused` to `ticked`, which do nothing here: one who wants to know overrides them. In them,
+    `cycle` is the cycle under way (of an offer: next to be ticked), `lengths` and `left` are the queue lengths and the turns left of each class, `turn`, `owner` and `elided`
+    are of the turn under way (-1, None and False before the first)."""
 
     def __init__(self, policy):
         self.policy = policy
+        self.cycle = 0
         self.lengths = [0] * policy.classes
-        self.left = [policy.cap(number) for number in range(policy.classes)]
-        self.owner, self.elided, self.number = None, False, -1
+        self.caps = [policy.cap(number) for number in range(policy.classes)]
+        self.left = list(self.caps)
+        self.turn, self.owner, self.elided = -1, None, False
+        # Requests by class, oldest first, and those activated and not yet answered: a word and the cycle of its offer.
+        self._waiting = [deque() for _ in range(policy.classes)]
+        self._flying = deque()
 
-    def start(self, call):
-        """A turn starts: the log says whose it is. Turns left are the caps as an epoch starts, and the owner's fall by 1, not below 0."""
-        self.number = call.cycle // self.policy.turn
-        self.owner, self.elided = owner_of(call.turn), is_elided(call.turn)
-        if self.number % self.policy.epoch == 0:
-            self.left = [self.policy.cap(number) for number in range(self.policy.classes)]
+    @property
+    def epoch(self):
+        return self.turn // self.policy.epoch
+
+    @property
+    def dead_from(self):
+        """The first cycle of the dead time of the turn under way, kept or dropped."""
+        return (self.turn + 1) * self.policy.turn - self.policy.dead
+
+    @property
+    def in_dead_time(self):
+        """Whether the cycle lies in a dead time that is kept."""
+        return not self.elided and self.cycle >= self.dead_from
+
+    def refused(self, word, status):
+        """A call was refused."""
+
+    def taken(self, word):
+        """An offer was taken; its queue is the longer by it already."""
+
+    def turn_started(self):
+        """A turn starts: whose it is, and its dead time, are known, and the owner is charged."""
+
+    def turn_ended(self):
+        """The last cycle of a turn, or of the run, is over; `cycle` is the one after it, and all else is still the turn's."""
+
+    def activated(self, word, offered):
+        """A request that was offered at that cycle goes out; its queue is the shorter by it already."""
+
+    def column(self, word):
+        """The column command of a request goes out; the word is the request's."""
+
+    def answered(self, word, offered):
+        """A request that was offered at that cycle is answered."""
+
+    def ticked(self, command, response):
+        """A tick is over: what its wires carried. All of the above that it brings came before."""
+
+    def run(self, ran, end=None):
+        """Goes through a run's calls, all of them or up to the tick before a cycle, and hands itself back."""
+        for word, status, command, response, turn in lines_of(ran.trace, ran.log):
+            if status:
+                self.refused(word, status)
+            elif word:
+                self._offer(word)
+            else:
+                if turn:
+                    self._start(turn)
+                if command:
+                    self._command(command)
+                if response:
+                    answer, offered = self._flying.popleft()
+                    self.answered(answer, offered)
+                self.ticked(command, response)
+                self.cycle += 1
+                if self.cycle == end:
+                    break
+        if self.turn >= 0:
+            self.turn_ended()
+        return self
+
+    def _offer(self, word):
+        owner = class_of(word)
+        self._waiting[owner].append((word, self.cycle))
+        self.lengths[owner] += 1
+        self.taken(word)
+
+    def _start(self, turn):
+        """Turns left are the caps as an epoch starts, and the owner's fall by 1, not below 0."""
+        if self.turn >= 0:
+            self.turn_ended()
+        self.turn = self.cycle // self.policy.turn
+        self.owner, self.elided = owner_of(turn), is_elided(turn)
+        if self.turn % self.policy.epoch == 0:
+            self.left = list(self.caps)
         self.left[self.owner] = max(0, self.left[self.owner] - 1)
+        self.turn_started()
+
+    def _command(self, command):
+        if is_column(command):
+            self.column(command & ~COLUMN)
+            return
+        owner = class_of(command)
+        queue = self._waiting[owner]
+        # Of equal requests the oldest goes first, whichever of the queue's may go.
+        place = next(place for place, (word, _) in enumerate(queue) if word == command)
+        request = queue[place]
+        del queue[place]
+        self.lengths[owner] -= 1
+        self._flying.append(request)
+        self.activated(*request)

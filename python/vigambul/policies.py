@@ -10,16 +10,16 @@ from .formats import CLASSES
 
 # The timing body's bytes in order: a key for texts, and words.
 TIMING = (
-    ("turn", "turn length"),
-    ("dead", "dead time"),
-    ("read_read", "gap read-read"),
-    ("read_write", "gap read-write"),
-    ("write_read", "gap write-read"),
-    ("write_write", "gap write-write"),
-    ("bank_read", "same-bank gap after a read"),
-    ("bank_write", "same-bank gap after a write"),
-    ("column", "column delay"),
-    ("answer", "answer delay"),
+    ("turn_length", "turn length"),
+    ("dead_time", "dead time"),
+    ("gap_read_read", "gap read-read"),
+    ("gap_read_write", "gap read-write"),
+    ("gap_write_read", "gap write-read"),
+    ("gap_write_write", "gap write-write"),
+    ("same_bank_after_read", "same-bank gap after a read"),
+    ("same_bank_after_write", "same-bank gap after a write"),
+    ("column_delay", "column delay"),
+    ("answer_delay", "answer delay"),
 )
 TIMING_KEYS = tuple(key for key, _ in TIMING)
 BODIES_START = 16
@@ -137,7 +137,7 @@ def names_beside(policy_path):
     if not path.is_file():
         return Names()
     names = Names()
-    for place, line in enumerate(path.read_text().splitlines(), 1):
+    for place, line in enumerate(path.read_text(errors="replace").splitlines(), 1):
         words = line.split()
         if not words or words[0].startswith("#"):
             continue

@@ -3,6 +3,11 @@
 from .formats import CLASSES, KINDS, REFUSALS, is_column, is_elided, is_offer, is_tick, owner_of, request_of, starts_turn
 
 
+def counted(number, thing, things=None, form="d"):
+    """A number of things, as in '1 entry' and '12 cycles'."""
+    return "%s %s" % (format(number, form), thing if number == 1 else things or thing + "s")
+
+
 def request_words(word, names):
     """A request: its class, kind, bank and tag. Numbers that no request may have are shown as they are."""
     request = request_of(word)

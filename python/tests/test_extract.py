@@ -1,0 +1,55 @@
+"""`vig extract`: what a class may see, in numbers and in words."""
+
+import shutil
+
+from .support import EXAMPLES, Case
+
+
+class Extract(Case):
+    def test_stored(self):
+        for folder, name in (("two-tenants-busy", "red"), ("two-tenants-busy", "blue"), ("refused-calls", "low"), ("diamond", "left")):
+            with self.subTest(folder, name=name):
+                self.stored("extract/%s-%s.txt" % (folder, name), self.succeeds("extract", EXAMPLES / folder, "--class", name))
+                self.stored("extract/%s-%s.words.txt" % (folder, name), self.succeeds("extract", EXAMPLES / folder, "--class", name, "--words"))
+
+    def test_words_have_the_lines(self):
+        """One line in words for each line of numbers; what is hidden is hidden in words too."""
+        for name in ("base", "red", "blue"):
+            lines = self.succeeds("extract", EXAMPLES / "two-tenants-busy", "--class", name).splitlines()[1:]
+            words = self.succeeds("extract", EXAMPLES / "two-tenants-busy", "--class", name, "--words").splitlines()
+            self.assertEqual(len(lines), len(words))
+            for line, text in zip(lines, words):
+                status, command, answer, turn = (int(number, 16) for number in line.split())
+                self.assertEqual("activate" in text or "column" in text, command != 0)
+                self.assertEqual("answer" in text, answer != 0)
+                self.assertEqual("turn of" in text, turn != 0)
+                self.assertEqual("turn of a class that may not be seen" in text, turn == 512)
+                self.assertEqual("refused" in text, status != 0)
+            others = {"base": ("red", "blue"), "red": ("blue",), "blue": ("red",)}[name]
+            self.assertFalse([text for text in words if any(other in text for other in others)])
+
+    def test_greatest_class_sees_the_log(self):
+        self.assertEqual(self.succeeds("extract", EXAMPLES / "diamond", "--class", "top"), (EXAMPLES / "diamond" / "expected.txt").read_text())
+
+    def test_by_number(self):
+        by_number, by_name = (self.succeeds("extract", EXAMPLES / "diamond", "--class", name) for name in ("2", "right"))
+        self.assertEqual(by_number, by_name)
+
+    def test_mistakes(self):
+        folder = EXAMPLES / "two-tenants"
+        self.assertEqual(self.fails(2, "extract", folder, "--class", "green"), "vig: green: no class of this policy; its classes are base, red, blue\n")
+        self.assertEqual(self.fails(2, "extract", folder, "--class", "3"), "vig: 3: no class of this policy; its classes are base, red, blue\n")
+        self.assertIn("--class", self.fails(2, "extract", folder))
+        self.assertIn("policy refused 5", self.fails(1, "extract", EXAMPLES / "refused", "--class", "low"))
+        self.assertIn("no such folder", self.fails(2, "extract", self.room / "no", "--class", "low"))
+        shutil.copy(folder / "policy.bin", self.room)
+        self.assertIn("trace.bin: no such file", self.fails(2, "extract", self.room, "--class", "0"))
+
+    def test_empty_trace(self):
+        shutil.copy(EXAMPLES / "two-tenants" / "policy.bin", self.room)
+        (self.room / "trace.bin").write_bytes(b"")
+        self.assertEqual(self.succeeds("extract", self.room, "--class", "0"), "status command answer turn\n")
+        self.assertEqual(self.succeeds("extract", self.room, "--class", "0", "--words"), "")
+
+    def test_help(self):
+        self.assertIn("example:", self.succeeds("extract", "--help"))

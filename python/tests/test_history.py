@@ -1,0 +1,212 @@
+"""The log told from its start on: against the examples' tables, and against the log itself on generated runs."""
+
+from vigambul import build
+from vigambul.folders import folder_at, run_folder
+from vigambul.formats import COLUMN, QUEUE_FULL, QUEUE_PLACES, TICKS_OVER, request_of
+from vigambul.history import Replay, calls_of, ticks_of
+
+from .samples import FIVE, generated, write
+from .support import EXAMPLES, Case
+
+
+class Told(Replay):
+    """Keeps everything that is told."""
+
+    def __init__(self, policy):
+        super().__init__(policy)
+        self.turns, self.ended, self.lives, self.columns, self.refusals, self.wires = [], [], {}, [], [], []
+
+    def refused(self, word, status):
+        self.refusals.append((self.cycle, word, status))
+
+    def taken(self, word):
+        self.lives.setdefault((word, self.cycle), []).append([None, None])
+
+    def turn_started(self):
+        self.turns.append((self.turn, self.epoch, self.owner, self.elided, self.cycle, tuple(self.lengths), tuple(self.left)))
+
+    def turn_ended(self):
+        self.ended.append((self.turn, self.cycle))
+
+    def activated(self, word, offered):
+        life = next(life for life in self.lives[word, offered] if life[0] is None)
+        life[0] = self.cycle
+
+    def column(self, word):
+        self.columns.append((self.cycle, word))
+
+    def answered(self, word, offered):
+        life = next(life for life in self.lives[word, offered] if life[1] is None)
+        life[1] = self.cycle
+
+    def ticked(self, command, response):
+        self.wires.append((self.cycle, command, response, self.in_dead_time))
+
+
+class HistoryCase(Case):
+    def told(self, name):
+        ran = run_folder(build.library(), folder_at(EXAMPLES / name))
+        return ran, Told(ran.policy).run(ran)
+
+    def owners(self, told):
+        """Owner and dead time of each turn, as the examples' tables have them: 1+ for class 1 with its dead time dropped."""
+        return " ".join("%d%s" % (owner, "+" if elided else "") for _, _, owner, elided, *_ in told.turns)
+
+
+class Examples(HistoryCase):
+    def test_turns(self):
+        for name, owners, turn in (
+            ("chain-of-three", "0+ 1+ 1 0+ 1+ 2 1 1 2 1", 4),
+            ("diamond", "0+ 2 1 3+ 3 0+ 1 3+ 3", 5),
+            ("two-tenants", "0+ 2 1 0+ 1 2 1", 6),
+            ("two-tenants-busy", "0+ 2 1 0+ 1 2 1", 6),
+            ("single-class", "0+ 0+ 0+ 0+", 12),
+        ):
+            with self.subTest(name):
+                ran, told = self.told(name)
+                self.assertEqual(self.owners(told), owners)
+                self.assertEqual([cycle for _, _, _, _, cycle, *_ in told.turns], [turn * number for number in range(len(told.turns))])
+                self.assertEqual([number for number, *_ in told.turns], list(range(len(told.turns))))
+                self.assertEqual([epoch for _, epoch, *_ in told.turns], [number // ran.policy.epoch for number in range(len(told.turns))])
+
+    def test_turns_left(self):
+        """The chain's caps are 1, 2 and 3; each epoch starts from them."""
+        _, told = self.told("chain-of-three")
+        self.assertEqual([left for *_, left in told.turns], [(0, 2, 3), (0, 1, 3), (0, 0, 3), (0, 2, 3), (0, 1, 3), (0, 1, 2), (1, 1, 3), (1, 0, 3), (1, 0, 2), (1, 1, 3)])
+
+    def test_queue_lengths(self):
+        """Waiting as the turns start: the three late offers of class 1 come in turn 5."""
+        _, told = self.told("chain-of-three")
+        self.assertEqual([lengths for *_, lengths, _ in told.turns], [(3, 5, 2), (1, 5, 2), (1, 3, 2), (1, 2, 2), (0, 2, 2), (0, 0, 2), (0, 3, 1), (0, 2, 1), (0, 1, 1), (0, 1, 0)])
+        self.assertEqual(told.lengths, [0, 0, 0])
+
+    def test_gaps(self):
+        """The single class's table: the cycle of each activate; the answers come 9 later."""
+        _, told = self.told("single-class")
+        lives = [life for (_, offered), lives in told.lives.items() for life in lives if offered == 0]
+        self.assertEqual([activated for activated, _ in lives], [0, 2, 6, 10, 16, 19, 27, 34])
+        self.assertEqual([answered for _, answered in lives], [9, 11, 15, 19, 25, 28, 36, 43])
+        self.assertEqual([cycle for cycle, _ in told.columns], [5, 7, 11, 15, 21, 24, 32, 39])
+
+    def test_refused_calls(self):
+        """The table of refused lines, and the cycles that they stand before."""
+        _, told = self.told("refused-calls")
+        self.assertEqual([status for _, _, status in told.refusals], [11, 9, 9, 10, 10, 10, 14, 14, 14, 11])
+        self.assertEqual([cycle for cycle, _, _ in told.refusals], [0] * 9 + [5])
+
+    def test_kept_dead_time(self):
+        """Turn 1 of the busy tenants keeps its dead time, cycles 9 to 11; turn 0 drops it."""
+        _, told = self.told("two-tenants-busy")
+        self.assertEqual([cycle for cycle, _, _, inside in told.wires if inside and cycle < 18], [9, 10, 11, 15, 16, 17])
+
+    def test_last_turn(self):
+        """The run ends inside its last turn, after 3 of 4 cycles."""
+        _, told = self.told("printed-log")
+        self.assertEqual(told.ended, [(0, 3)])
+
+
+class Generated(HistoryCase):
+    """What is told must agree with what the proved library wrote, in ways that would come out wrong if a queue, a cycle or a turn left were miscounted."""
+
+    @classmethod
+    def setUpClass(cls):
+        super().setUpClass()
+        cls.library = build.library()
+
+    def test_calls(self):
+        for ran in generated(self.library, self.room, 6, 60):
+            calls = list(calls_of(ran.trace, ran.log))
+            self.assertEqual([call.word for call in calls], list(ran.trace))
+            self.assertEqual([number for call in calls for number in call.numbers], list(ran.log))
+            for call in calls:
+                self.assertEqual(call.cycle, sum(earlier.ticks for earlier in calls[: call.place]))
+            self.assertEqual(ticks_of(ran.trace, ran.log), sum(call.ticks for call in calls))
+
+    def test_state(self):
+        """A class that owns a turn, with classes above it, waits and had turns left; 11 comes exactly where 8 wait; nothing is activated in a kept dead time."""
+        passed_on = full = kept = 0
+        for ran in generated(self.library, self.room, 40, 400):
+            policy, told = ran.policy, Told(ran.policy).run(ran)
+            for turn, _, owner, _, _, lengths, left in told.turns:
+                before = told.caps if turn % policy.epoch == 0 else told.turns[turn - 1][-1]
+                if policy.above(owner):
+                    self.assertGreater(lengths[owner], 0)
+                    self.assertGreater(before[owner], 0)
+                    self.assertEqual(left[owner], before[owner] - 1)
+                if owner != policy.least:
+                    passed_on += 1
+                    self.assertFalse(lengths[policy.least] > 0 and before[policy.least] > 0)
+            for cycle, command, _, inside in told.wires:
+                kept += inside
+                self.assertFalse(inside and command and not command & COLUMN, cycle)
+            full += self.check_queues(ran)
+        self.assertGreater(passed_on, 100)
+        self.assertGreater(kept, 100)
+        self.assertGreater(full, 100)
+
+    def check_queues(self, ran):
+        """Counts the offers that get 11, each of which must find eight waiting, and each that is taken fewer."""
+
+        class Watching(Told):
+            def refused(inner, word, status):
+                if status == QUEUE_FULL:
+                    self.assertEqual(inner.lengths[request_of(word).owner], QUEUE_PLACES)
+                super().refused(word, status)
+
+            def taken(inner, word):
+                self.assertLessEqual(inner.lengths[request_of(word).owner], QUEUE_PLACES)
+                super().taken(word)
+
+        return sum(status == QUEUE_FULL for _, _, status in Watching(ran.policy).run(ran).refusals)
+
+    def test_lives(self):
+        """Column commands and answers come by the delays, and whatever is offered and taken is activated, or still waits."""
+        for ran in generated(self.library, self.room, 20, 300):
+            told = Told(ran.policy).run(ran)
+            lives = [(word, *life) for (word, _), lives in told.lives.items() for life in lives]
+            waiting = [word for word, activated, _ in lives if activated is None]
+            self.assertEqual(len(waiting), sum(told.lengths))
+            columns = sorted((activated + ran.policy.column_delay, word) for word, activated, _ in lives if activated is not None)
+            self.assertEqual(told.columns, [item for item in columns if item[0] < told.cycle])
+            for _, activated, answered in lives:
+                if activated is not None and activated + ran.policy.answer_delay < told.cycle:
+                    self.assertEqual(answered, activated + ran.policy.answer_delay)
+                else:
+                    self.assertIsNone(answered)
+
+    def test_end(self):
+        """Up to a cycle, what is told is the beginning of the whole."""
+        ran = next(generated(self.library, self.room, 1, 200))
+        whole, part = Told(ran.policy).run(ran), Told(ran.policy).run(ran, 77)
+        self.assertEqual(part.cycle, 77)
+        self.assertEqual(part.wires, whole.wires[:77])
+        self.assertEqual(whole.cycle, 200)
+
+    def test_equal_requests_leave_in_order(self):
+        """Two equal requests offered at different cycles: the older one's answer comes first."""
+        word = 0x81010001
+        folder = write(self.room / "equal", FIVE, [word, 0, 0, word] + [0] * 60)
+        ran = run_folder(self.library, folder_at(folder))
+        told = Told(ran.policy).run(ran)
+        (first,), (second,) = told.lives[word, 0], told.lives[word, 2]
+        self.assertLess(first[1], second[1])
+
+    def test_request_that_passes_others(self):
+        """Whichever waiting request a log activates leaves its queue (later rules may let one pass): a log is made in which the second goes first."""
+        one, two = 0x80000001, 0x80010002
+        ran = run_folder(self.library, folder_at(write(self.room / "passing", FIVE, [one, two] + [0] * 12)))
+        swapped = {one: two, two: one, one | COLUMN: two | COLUMN, two | COLUMN: one | COLUMN, 0: 0}
+        for place in range(8, len(ran.log), 4):
+            ran.log[place + 1], ran.log[place + 2] = swapped[ran.log[place + 1]], swapped[ran.log[place + 2]]
+        told = Told(ran.policy).run(ran)
+        self.assertEqual((told.lives[two, 0], told.lives[one, 0]), ([[0, 3]], [[2, 5]]))
+
+
+    def test_ticks_that_are_refused(self):
+        """Ticks after the last one are refused, and no cycles. The last is far off, so the log is written by hand."""
+        ran = run_folder(self.library, folder_at(write(self.room / "over", FIVE, [0, 0, 0])))
+        for place, number in enumerate((TICKS_OVER, 0, 0, 0), 8):
+            ran.log[place] = number
+        self.assertEqual(ticks_of(ran.trace, ran.log), 2)
+        told = Told(ran.policy).run(ran)
+        self.assertEqual((told.cycle, told.refusals), (2, [(2, 0, TICKS_OVER)]))

@@ -1,0 +1,174 @@
+"""The report: stored tables of the examples, figures counted by hand, and figures counted anew, slowly, on generated runs."""
+
+import csv
+import json
+import statistics
+from collections import Counter
+
+from vigambul import build
+from vigambul.figures import figures_of
+from vigambul.folders import folder_at, run_folder
+from vigambul.formats import COLUMN, owner_of, request_of
+from vigambul.history import calls_of
+from vigambul.tables import aligned, grouped
+
+from .samples import FIVE, generated, write, write_five
+from .support import EXAMPLES, Case, vig
+
+TAKEN = ("chain-of-three", "diamond", "printed-log", "refused-calls", "single-class", "two-tenants", "two-tenants-busy")
+
+
+class Stored(Case):
+    """Folders are named as from the root of the repository, so that what is stored holds everywhere."""
+
+    def named(self, text):
+        return text.replace(str(EXAMPLES), "examples").replace(str(self.room), "room")
+
+    def test_examples(self):
+        for name in TAKEN:
+            with self.subTest(name):
+                self.stored("report/%s.txt" % name, self.named(self.succeeds("report", EXAMPLES / name)))
+
+    def test_several_with_one_policy(self):
+        out = self.succeeds("report", EXAMPLES / "two-tenants", EXAMPLES / "two-tenants-busy", "--epochs", "--csv", self.room / "f.csv", "--json", self.room / "f.json")
+        self.stored("report/both-tenants.txt", self.named(out))
+        self.stored("report/both-tenants.csv", self.named((self.room / "f.csv").read_text()))
+        self.stored("report/both-tenants.json", self.named((self.room / "f.json").read_text()))
+
+    def test_five(self):
+        self.stored("report/five.txt", self.named(self.succeeds("report", write_five(self.room / "five"), "--epochs")))
+
+
+class Usage(Case):
+    def test_different_policies(self):
+        status, out, err = vig("report", EXAMPLES / "diamond", EXAMPLES / "single-class", "--json", self.room / "f.json")
+        self.assertEqual(status, 0)
+        self.assertNotIn("all 2 folders", out)
+        self.assertIn("different policies", err)
+        self.assertIsNone(json.loads((self.room / "f.json").read_text())["all"])
+
+    def test_missing(self):
+        self.assertIn("nowhere: no such folder", self.fails(2, "report", EXAMPLES / "diamond", self.room / "nowhere"))
+        self.fails(2, "report")
+        (self.room / "half").mkdir()
+        (self.room / "half" / "policy.bin").write_bytes(FIVE.to_bytes())
+        self.assertIn("trace.bin: no such file", self.fails(2, "report", self.room / "half"))
+        self.assertIn("No such file", self.fails(2, "report", EXAMPLES / "diamond", "--csv", self.room / "no" / "f.csv"))
+
+    def test_refused_policy(self):
+        self.assertIn("policy refused 5", self.fails(1, "report", EXAMPLES / "refused", "--csv", self.room / "f.csv"))
+        self.assertFalse((self.room / "f.csv").exists())
+
+    def test_left_over_bytes(self):
+        status, _, err = vig("report", EXAMPLES / "refused-calls")
+        self.assertEqual(status, 0)
+        self.assertIn("3 bytes left over", err)
+
+    def test_no_ticks(self):
+        """No cycle, no turn, no epoch: dashes, and no division by 0."""
+        folder = write(self.room / "still", FIVE, [0x81000001])
+        out = self.succeeds("report", folder, "--epochs", "--json", self.room / "f.json")
+        self.assertIn("0 cycles, 0 turns, 0 whole epochs of 8 turns", out)
+        first = json.loads((self.room / "f.json").read_text())["folders"][0]
+        self.assertEqual(first["classes"][1]["offers"], {"taken": 1, "refused_11": 0})
+        self.assertEqual(first["classes"][1]["waits"], {"sum": 0, "mean": None, "median": None, "95th": None, "longest": None})
+        self.assertEqual(first["command_wires"]["busy_percent"], None)
+
+
+class Numbers(Case):
+    def figures(self, name):
+        return figures_of(run_folder(build.library(), folder_at(EXAMPLES / name)))
+
+    def test_single_class(self):
+        """All eight are offered before cycle 0, so the waits are the answers' cycles: 9, 11, 15, 19, 25, 28, 36, 43. Turn 3, from cycle 36 on, has no activate."""
+        service = self.figures("single-class").services[0]
+        self.assertEqual(service.waited, 186)
+        self.assertEqual((service.answers, service.mean, service.median, service.rank(95), service.longest), (8, 186 / 8, 19, 43, 43))
+        self.assertEqual((service.turns, service.idle, service.elided, service.activates), (4, 1, 4, 8))
+
+    def test_late_offers(self):
+        """The chain's class 1 has three late offers, before cycle 22: answered in cycles 26, 30 and 38, after 4, 8 and 16."""
+        waits = self.figures("chain-of-three").services[1].waits
+        self.assertEqual(sorted(waits.elements()), sorted([6, 8, 10, 18, 20, 4, 8, 16]))
+
+    def test_idle(self):
+        """Tenant 2 owns two turns and uses none; where it is busy, both."""
+        self.assertEqual(self.figures("two-tenants").services[2].idle, 2)
+        self.assertEqual(self.figures("two-tenants-busy").services[2].idle, 0)
+
+    def test_ranks(self):
+        """The nearest rank of 1 to 100, and of few."""
+        service = self.figures("printed-log").services[0]
+        service.waits.clear()
+        for wait in range(1, 101):
+            service.waits[wait] += 1
+        self.assertEqual((service.median, service.rank(95), service.longest), (50, 95, 100))
+        service.waits.clear()
+        service.waits.update([7, 3])
+        self.assertEqual((service.median, service.rank(95)), (3, 7))
+
+    def test_generated(self):
+        """Every figure counted once more from the calls, in another way."""
+        seen = 0
+        for ran in generated(build.library(), self.room, 25, 300):
+            figures = figures_of(ran)
+            calls = list(calls_of(ran.trace, ran.log))
+            ticks = [call for call in calls if call.ticks]
+            owners = [owner_of(call.turn) for call in ticks if call.turn]
+            activates = [(call.cycle // ran.policy.turn, request_of(call.command).owner) for call in ticks if call.command and not call.command & COLUMN]
+            self.assertEqual((figures.ticks, figures.turns), (len(ticks), len(owners)))
+            self.assertEqual(figures.busy, sum(call.command != 0 for call in ticks))
+            self.assertEqual(figures.refusals, Counter(call.status for call in calls if call.status))
+            whole = [owners[start : start + ran.policy.epoch] for start in range(0, len(owners), ran.policy.epoch)]
+            for number, service in enumerate(figures.services):
+                mine = [call for call in calls if call.offers and request_of(call.word).owner == number]
+                self.assertEqual(service.taken, sum(call.status == 0 for call in mine))
+                self.assertEqual(service.full, sum(call.status == 11 for call in mine))
+                self.assertEqual(service.turns, owners.count(number))
+                self.assertEqual(service.activates, sum(owner == number for _, owner in activates))
+                self.assertEqual(service.idle, sum(owner == number and (turn, number) not in activates for turn, owner in enumerate(owners)))
+                self.assertEqual(service.elided, sum(call.turn == number + 257 for call in ticks))
+                waits = waits_of(number, calls)
+                self.assertEqual(sorted(service.waits.elements()), sorted(waits))
+                if waits:
+                    self.assertAlmostEqual(service.mean, statistics.mean(waits))
+                    self.assertEqual(service.median, statistics.median_low(waits))
+                    self.assertEqual(service.rank(95), sorted(waits)[-(-95 * len(waits) // 100) - 1])
+                self.assertEqual(list(figures.turns_in_epochs(number)), [epoch.count(number) for epoch in whole if len(epoch) == ran.policy.epoch])
+                seen += len(waits)
+            if len(owners) % ran.policy.epoch:
+                self.assertEqual(figures.part, [whole[-1].count(number) for number in range(ran.policy.classes)])
+            else:
+                self.assertIsNone(figures.part)
+        self.assertGreater(seen, 500)
+
+    def test_together(self):
+        """Over all: the CSV's rows of a class add up to the JSON's figures over all."""
+        folders = [write_five(self.room / str(cycles), cycles) for cycles in (50, 240, 333)]
+        self.succeeds("report", *folders, "--csv", self.room / "f.csv", "--json", self.room / "f.json")
+        rows = list(csv.DictReader((self.room / "f.csv").read_text().splitlines()))
+        self.assertEqual(len(rows), 15)
+        together = json.loads((self.room / "f.json").read_text())["all"]
+        self.assertEqual(together["ticks"], 50 + 240 + 333)
+        for value in together["classes"]:
+            mine = [row for row in rows if row["name"] == value["name"]]
+            for key, number in (("answers", value["answers"]), ("wait_sum", value["waits"]["sum"]), ("turns_owned", value["turns"]["owned"]), ("activates", value["activates"])):
+                self.assertEqual(sum(int(row[key]) for row in mine), number)
+            self.assertEqual(max(int(row["wait_longest"]) for row in mine if row["wait_longest"]), value["waits"]["longest"])
+            self.assertEqual(max(int(row["epoch_turns_most"]) for row in mine if row["epoch_turns_most"]), value["whole_epochs"]["most"])
+
+
+def waits_of(number, calls):
+    """A class's waits: its requests leave, and so are answered, in the order of their offers."""
+    offered = [call.cycle for call in calls if call.offers and call.status == 0 and request_of(call.word).owner == number]
+    answered = [call.cycle for call in calls if call.response and request_of(call.response).owner == number]
+    return [answer - offer for offer, answer in zip(offered, answered)]
+
+
+class Tables(Case):
+    def test_aligned(self):
+        self.assertEqual(aligned([["a", "bb"], ["ccc", 1]]), ["a    bb", "ccc   1"])
+
+    def test_groups(self):
+        """A title that is wider than its columns widens the first of them."""
+        self.assertEqual(grouped([("", 1), ("wide", 2)], [["a", "b", "c"], ["x", 1, 2]]), ["   - wide -", "a      b  c", "x      1  2"])

@@ -1,0 +1,197 @@
+"""The waveform: read back by a strict reader of value change dumps, and compared with the log cycle by cycle."""
+
+import re
+
+from vigambul import build
+from vigambul.folders import folder_at, run_folder
+from vigambul.formats import is_column, is_elided, owner_of, request_of
+from vigambul.history import calls_of
+from vigambul.policies import Names
+from vigambul.waveform import identifiers
+
+from .samples import FIVE, FIVE_NAMES, generated, write, write_five
+from .support import EXAMPLES, Case
+
+IDENTIFIER = re.compile(r"[A-Za-z_][A-Za-z0-9_$]*\Z")
+
+
+class Dump:
+    """A dump that was read: the widths of its signals by their full names, the values in each cycle, and the last time."""
+
+    def __init__(self, text):
+        header, _, body = text.partition("$enddefinitions $end\n")
+        self.widths, self.codes = {}, {}
+        self._declare(header.split())
+        self.cycles, self.last = [], None
+        self._read(body.splitlines())
+
+    def _declare(self, tokens):
+        scopes, sections = [], []
+        while tokens:
+            keyword, end = tokens[0], tokens.index("$end")
+            words, tokens = tokens[1:end], tokens[end + 1 :]
+            sections.append(keyword)
+            if keyword == "$scope":
+                assert words[0] == "module" and IDENTIFIER.match(words[1]), words
+                scopes.append(words[1])
+            elif keyword == "$upscope":
+                scopes.pop()
+            elif keyword == "$var":
+                self._variable(scopes, *words)
+            else:
+                assert keyword in ("$version", "$comment", "$timescale"), keyword
+        assert not scopes and sections.count("$timescale") == 1
+
+    def _variable(self, scopes, kind, width, code, name, span=None):
+        path = ".".join([*scopes, name])
+        assert kind == "reg" and IDENTIFIER.match(name) and path not in self.widths and code not in self.codes, path
+        assert all(33 <= ord(character) <= 126 for character in code), code
+        assert span == (None if width == "1" else "[%d:0]" % (int(width) - 1)), span
+        self.widths[path], self.codes[code] = int(width), path
+
+    def _read(self, lines):
+        values, dumping = {}, False
+        for line in lines:
+            if line.startswith("#"):
+                self._until(int(line[1:]), values)
+            elif line == "$dumpvars":
+                assert self.last == 0 and not values
+                dumping = True
+            elif line == "$end":
+                assert dumping and set(values) == set(self.widths)
+                dumping = False
+            else:
+                assert dumping or self.last > 0
+                path, value = self._change(line)
+                assert dumping or values[path] != value, "%s at %d is no change" % (path, self.last)
+                values[path] = value
+        assert not dumping
+        self.values = values
+
+    def _until(self, time, values):
+        """Fills the cycles up to a time, which must be above the one before."""
+        assert time == 0 if self.last is None else time > self.last, time
+        self.cycles += [dict(values) for _ in range(time - (self.last or 0))]
+        self.last = time
+
+    def _change(self, line):
+        digits, code = line[1:].split(" ") if line[0] == "b" else (line[0], line[1:])
+        path = self.codes[code]
+        assert re.fullmatch("[01]+", digits) and len(digits) <= self.widths[path], line
+        assert (line[0] == "b") == (self.widths[path] > 1), line
+        return path, int(digits, 2)
+
+
+def text_of(value):
+    return value.to_bytes((value.bit_length() + 7) // 8, "big").decode()
+
+
+class VcdCase(Case):
+    def dump(self, folder):
+        self.succeeds("vcd", folder, "-o", self.room / "out.vcd")
+        return Dump((self.room / "out.vcd").read_text())
+
+    def check(self, ran, dump):
+        """Each cycle of the dump against the log. Queue lengths and turns left are counted here on their own."""
+        policy, names = ran.policy, identifiers(ran.names, ran.policy.classes)
+        lengths, caps = [0] * policy.classes, [policy.cap(number) for number in range(policy.classes)]
+        owners, elided = [], False
+        for call in calls_of(ran.trace, ran.log):
+            if call.ticks:
+                if call.turn:
+                    owners.append(owner_of(call.turn))
+                    elided = is_elided(call.turn)
+                wanted = self.values_of(call, policy, names, owners, elided)
+                this_epoch = owners[len(owners) - 1 - (len(owners) - 1) % policy.epoch :]
+                for number, name in enumerate(names):
+                    wanted["queue." + name] = lengths[number]
+                    wanted["turns_left." + name] = max(0, caps[number] - this_epoch.count(number))
+                self.assertEqual(dump.cycles[call.cycle], {"vigambul." + path: value for path, value in wanted.items()}, call.cycle)
+                if call.command and not is_column(call.command):
+                    lengths[request_of(call.command).owner] -= 1
+            elif call.offers and call.status == 0:
+                lengths[request_of(call.word).owner] += 1
+
+    def values_of(self, call, policy, names, owners, elided):
+        text = lambda name: int.from_bytes(name.encode(), "big")
+        offset = call.cycle % policy.turn
+        values = {
+            "turn": call.cycle // policy.turn,
+            "epoch": call.cycle // policy.turn // policy.epoch,
+            "owner.class": owners[-1],
+            "owner.name": text(names[owners[-1]]),
+            "dead_time.dropped": int(elided),
+            "dead_time.inside": int(not elided and offset >= policy.turn - policy.dead),
+            "command.activate": int(call.command != 0 and not is_column(call.command)),
+            "command.column": int(is_column(call.command)),
+            "answer.valid": int(call.response != 0),
+        }
+        for scope, word in (("command", call.command), ("answer", call.response)):
+            request = request_of(word)
+            values[scope + ".name"] = text(names[request.owner] if word else "-")
+            values.update({scope + ".class": request.owner, scope + ".kind": request.kind, scope + ".bank": request.bank, scope + ".tag": request.tag})
+        return values
+
+
+class Compared(VcdCase):
+    def test_examples(self):
+        for name in ("chain-of-three", "diamond", "printed-log", "refused-calls", "single-class", "two-tenants-busy"):
+            with self.subTest(name):
+                ran = run_folder(build.library(), folder_at(EXAMPLES / name))
+                dump = self.dump(EXAMPLES / name)
+                self.assertEqual(dump.last, len(dump.cycles))
+                self.assertEqual(len(dump.cycles), sum(call.ticks for call in calls_of(ran.trace, ran.log)))
+                self.check(ran, dump)
+
+    def test_generated(self):
+        """Up to 16 classes, without names."""
+        for ran in generated(build.library(), self.room, 12, 150):
+            dump = self.dump(ran.folder.path)
+            self.assertEqual(len(dump.cycles), 150)
+            self.check(ran, dump)
+
+    def test_by_hand(self):
+        """The busy tenants in cycle 7: the turn is blue's, its column command goes out, and the base's third read is answered."""
+        values = {path.removeprefix("vigambul."): value for path, value in self.dump(EXAMPLES / "two-tenants-busy").cycles[7].items()}
+        self.assertEqual((values["turn"], values["epoch"], text_of(values["owner.name"])), (1, 0, "blue"))
+        self.assertEqual((values["command.activate"], values["command.column"], text_of(values["command.name"]), values["command.bank"]), (0, 1, "blue", 5))
+        self.assertEqual((values["answer.valid"], text_of(values["answer.name"]), values["answer.tag"]), (1, "base", 3))
+        self.assertEqual((values["queue.base"], values["queue.red"], values["queue.blue"]), (3, 8, 1))
+        self.assertEqual((values["turns_left.base"], values["turns_left.red"], values["turns_left.blue"]), (0, 3, 2))
+
+    def test_no_ticks(self):
+        """Only the values before the first cycle: what waits is shown."""
+        dump = self.dump(write(self.room / "still", FIVE, [0x81000001, 0x81000002], FIVE_NAMES))
+        self.assertEqual((dump.cycles, dump.last, dump.values["vigambul.queue.alice"]), ([], 0, 2))
+
+    def test_stored(self):
+        self.succeeds("vcd", EXAMPLES / "printed-log", "-o", self.room / "printed.vcd")
+        self.stored("vcd/printed-log.vcd", (self.room / "printed.vcd").read_text())
+        self.stored("vcd/printed-log.gtkw", (self.room / "printed.gtkw").read_text())
+
+
+class SaveFile(VcdCase):
+    def test_lists_every_signal(self):
+        dump = self.dump(write_five(self.room / "five", 30))
+        lines = (self.room / "out.gtkw").read_text().splitlines()
+        listed = [line for line in lines if line.startswith("vigambul.")]
+        span = lambda path: path if dump.widths[path] == 1 else "%s[%d:0]" % (path, dump.widths[path] - 1)
+        self.assertEqual(listed, [span(path) for path in dump.widths])
+        titles = [line for line in lines if line.startswith("-")]
+        self.assertEqual(titles[0::2], titles[1::2])
+        self.assertEqual(titles[0::2], ["-turn", "-owner", "-dead time", "-command", "-answer", "-queue", "-turns left"])
+        self.assertIn('[dumpfile] "out.vcd"', lines)
+
+
+class NamesAndUsage(VcdCase):
+    def test_identifiers(self):
+        """Names may have hyphens, which identifiers may not; two names that fall together are told apart."""
+        self.assertEqual(identifiers(Names({0: "a-b", 1: "a_b", 3: "class_2"}), 4), ["a_b", "a_b_1", "class_2", "class_2_3"])
+
+    def test_mistakes(self):
+        self.assertIn("nowhere: no such folder", self.fails(2, "vcd", self.room / "nowhere", "-o", self.room / "out.vcd"))
+        self.fails(2, "vcd", EXAMPLES / "diamond")
+        self.assertIn("No such file", self.fails(2, "vcd", EXAMPLES / "diamond", "-o", self.room / "no" / "out.vcd"))
+        self.assertIn("save file", self.fails(2, "vcd", EXAMPLES / "diamond", "-o", self.room / "out.gtkw"))
+        self.assertIn("policy refused 5", self.fails(1, "vcd", EXAMPLES / "refused", "-o", self.room / "out.vcd"))
+        self.assertEqual(list(self.room.iterdir()), [])

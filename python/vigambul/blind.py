@@ -1,0 +1,68 @@
+"""Two traces of one policy side by side: does a class learn anything of what it may not know? The premise is that the two agree for the class once what it may not know is struck
+out; then its two extracts, by the proved extract, must be equal. That they are is a theorem; here it can be watched."""
+
+from dataclasses import dataclass
+
+from .folders import extract_of
+from .history import calls_of
+from .purge import place_of_seen, purge
+from .words import call_words, trace_words
+
+FIELDS = ("status", "command", "answer", "turn")
+
+
+def first_difference(left, right):
+    """The first place at which two sequences differ, the end of the shorter one counted; None if they are equal."""
+    if left == right:
+        return None
+    return next((place for place, (one, other) in enumerate(zip(left, right)) if one != other), min(len(left), len(right)))
+
+
+def premise(policy, seen_by, trace, other):
+    """Where two traces, once purged for a class, first differ; None if they agree for it."""
+    return first_difference(purge(trace, policy, seen_by), purge(other, policy, seen_by))
+
+
+@dataclass
+class Seen:
+    """A run as a class sees it: the trace numbers that are left for it, and the extract, four numbers for each."""
+
+    ran: object
+    words: object
+    numbers: object
+
+    @property
+    def struck(self):
+        """How many calls were struck out."""
+        return len(self.ran.trace) - len(self.words)
+
+
+def seen_of(library, ran, seen_by):
+    return Seen(ran, purge(ran.trace, ran.policy, seen_by), extract_of(library, ran, seen_by))
+
+
+def premise_words(policy, seen_by, names, runs, place):
+    """The place at which the premise fails, for both runs."""
+    for ran in runs:
+        at = place_of_seen(ran.trace, policy, seen_by, place)
+        where = "%s: " % (ran.folder.path / "trace.bin")
+        yield where + ("no more trace numbers" if at is None else "trace number %d: %08X, %s" % (at + 1, ran.trace[at], trace_words(ran.trace[at], names)))
+
+
+def _line_words(seen, line, names):
+    """A line of an extract in words. The trace numbers left tell which call it belongs to."""
+    if 4 * line >= len(seen.numbers):
+        return "no more lines"
+    if line >= len(seen.words):
+        return "a line of a call that was struck out"
+    call = next(call for call in calls_of(seen.words, seen.numbers) if call.place == line)
+    return call_words(call, names)
+
+
+def difference_words(sides, place, names):
+    """The first place at which two extracts differ: line, field, and the two lines in words."""
+    line, part = divmod(place, 4)
+    yield "the first difference is in line %d of the extracts, in its %s:" % (line + 1, FIELDS[part])
+    for seen in sides:
+        number = "%08X" % seen.numbers[place] if place < len(seen.numbers) else "nothing"
+        yield "  %s: %s: %s" % (seen.ran.folder.path, number, _line_words(seen, line, names))

@@ -1,0 +1,151 @@
+"""Pairs of traces that agree for a class and differ in what its neighbours do, made to bring a leak to light if there were one: neighbours that are idle or keep their queues
+full, that come in bursts at the edges of turns and epochs, and words that are malformed or name no class. Each pair rests on the seed and its number alone."""
+
+from dataclasses import dataclass
+from itertools import compress
+from operator import not_
+from pathlib import Path
+
+from .blind import difference_words, first_difference, seen_of
+from .draws import Draws
+from .folders import Folder, run_folder
+from .formats import BANKS, CLASSES, COLUMN, OFFER, QUEUE_PLACES, Request, words_of
+from .policies import policy_of
+
+# A pair passes so many epochs, and ticks at least so often.
+EPOCHS = 3
+LEAST_CYCLES = 64
+
+
+def a_request(draws, owner):
+    """A word of a class: now and then with a bank or a kind that there is none of, mostly to few banks, so that neighbours meet."""
+    bank = draws.below(2 * BANKS) if draws.chance(0.03) else draws.below(3) if draws.chance(0.5) else draws.below(BANKS)
+    kind = draws.below(4) if draws.chance(0.03) else draws.below(2)
+    return Request(owner, kind, bank, draws.below(65_536)).word
+
+
+def a_stray(draws, policy):
+    """A word that no class may be told of: malformed, or an offer of a class that there is none of."""
+    word = a_request(draws, draws.below(CLASSES))
+    return draws.one_of((
+        word & ~OFFER | 1,
+        word | COLUMN,
+        word | 1 << 22,
+        a_request(draws, policy.classes + draws.below(2 * CLASSES - policy.classes)),
+    ))
+
+
+# Habits of a class: the cycles before which it offers, a cycle for each request.
+
+
+def idle(draws, policy, cycles):
+    return []
+
+
+def now_and_then(draws, policy, cycles):
+    return [draws.below(cycles) for _ in range(1 + draws.below(2 + cycles // policy.turn))]
+
+
+def saturating(draws, policy, cycles):
+    """The queue is full as each turn starts."""
+    return [start for start in range(0, cycles, policy.turn) for _ in range(QUEUE_PLACES)]
+
+
+def at_turn_edges(draws, policy, cycles):
+    """Just before and after turns start, and where the dead time begins."""
+    offsets = (0, 1, policy.turn - 1, policy.turn - policy.dead, policy.turn - policy.dead - 1)
+    return [start + draws.one_of(offsets) for start in range(0, cycles, policy.turn) if draws.chance(0.6) for _ in range(1 + draws.below(3))]
+
+
+def at_epoch_ends(draws, policy, cycles):
+    """In bursts around the start and the end of an epoch's last turn."""
+    epoch = policy.epoch * policy.turn
+    offsets = (0, 1, epoch - 1, epoch - policy.turn, epoch - policy.turn - 1)
+    return [max(0, start + draws.one_of(offsets)) for start in range(0, cycles, epoch) for _ in range(1 + draws.below(QUEUE_PLACES))]
+
+
+HABITS = (idle, now_and_then, saturating, at_turn_edges, at_epoch_ends)
+
+
+def offers_of(draws, policy, classes, cycles):
+    """The offers of classes, each with a habit of its own: for each cycle that has some, the words in their order."""
+    by_cycle = {}
+    for owner in classes:
+        for cycle in draws.one_of(HABITS)(draws, policy, cycles):
+            by_cycle.setdefault(min(cycle, cycles), []).append(a_request(draws, owner))
+    return by_cycle
+
+
+def filling(draws, policy, hidden, cycles):
+    """What a class may not know: its neighbours' offers, and stray words."""
+    by_cycle = {} if draws.chance(0.2) else offers_of(draws, policy, hidden, cycles)
+    if draws.chance(0.5) or not hidden:
+        for _ in range(1 + draws.below(12)):
+            by_cycle.setdefault(draws.below(cycles + 1), []).append(a_stray(draws, policy))
+    return by_cycle
+
+
+def merged(draws, base, other, cycles):
+    """One trace of the base traffic and a filling, which goes before, between or after the base's words of a cycle."""
+    words, at = words_of(b"")[0], 0
+    for cycle in sorted(base.keys() | other.keys()):
+        words.frombytes(bytes(4 * (cycle - at)))
+        at = cycle
+        known = base.get(cycle, [])
+        cut = draws.below(len(known) + 1)
+        words.extend(known[:cut] + other.get(cycle, []) + known[cut:])
+    words.frombytes(bytes(4 * (cycles - at)))
+    return words
+
+
+def pair_of(draws, policy, seen_by):
+    """Two traces that agree for a class."""
+    epoch = policy.epoch * policy.turn
+    cycles = max(EPOCHS * epoch, LEAST_CYCLES) + draws.below(epoch + 1)
+    flowing = [number for number in range(policy.classes) if policy.flows(number, seen_by)]
+    hidden = [number for number in range(policy.classes) if number not in flowing]
+    base = offers_of(draws, policy, flowing, cycles)
+    return [merged(draws, base, filling(draws, policy, hidden, cycles), cycles) for _ in range(2)]
+
+
+def ticks_shown(ran):
+    """What the ticks of a run showed to all: commands, answers and turns."""
+    return [list(compress(ran.log[part::4], map(not_, ran.trace))) for part in (1, 2, 3)]
+
+
+@dataclass
+class Figures:
+    """What a search over pairs found for a class."""
+
+    pairs: int = 0
+    trace_numbers: int = 0
+    struck: int = 0
+    logs_differ: int = 0
+    extracts_differ: int = 0
+    # The lines that tell the first difference.
+    first: list = None
+
+    def count(self, number, sides, names):
+        """Counts a pair, of which the two sides are given as the class sees them."""
+        one, other = sides
+        self.pairs += 1
+        self.trace_numbers += len(one.ran.trace) + len(other.ran.trace)
+        self.struck += one.struck + other.struck
+        self.logs_differ += ticks_shown(one.ran) != ticks_shown(other.ran)
+        place = first_difference(one.numbers, other.numbers)
+        if place is not None:
+            self.extracts_differ += 1
+            self.first = self.first or ["pair %d" % number, *difference_words(sides, place, names)]
+
+
+def searched(library, policy_bytes, names, classes, pairs, seed, done=lambda number: None):
+    """The figures of each class, over pairs that take the classes one after the other. The policy is one that is taken."""
+    policy = policy_of(policy_bytes)
+    figures = {number: Figures() for number in classes[:pairs]}
+    for number in range(pairs):
+        seen_by = classes[number % len(classes)]
+        traces = pair_of(Draws("blind", seed, number), policy, seen_by)
+        runs = [run_folder(library, Folder(Path(label), policy_bytes, trace, 0, names)) for label, trace in zip(("the first trace", "the second trace"), traces)]
+        figures[seen_by].count(number + 1, [seen_of(library, ran, seen_by) for ran in runs], names)
+        done(number + 1)
+    return figures

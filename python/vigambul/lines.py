@@ -1,0 +1,41 @@
+"""Lines of a log as numbers, many at a time: a log may have 17,000,000 of them, so what is as the program prints it is turned over in one piece."""
+
+import re
+from binascii import Error, unhexlify
+
+from .formats import words_of
+
+# Lines that are read at a time.
+MANY = 1 << 15
+# A line as the program prints it: four numbers of 8 digits, with three spaces between them and its end behind them.
+LINE_BYTES = 36
+LINE = re.compile(rb"([0-9A-Fa-f]{8}) ([0-9A-Fa-f]{8}) ([0-9A-Fa-f]{8}) ([0-9A-Fa-f]{8})[ \t\r]*\n?\Z")
+CUT_TRACE = b"trace ends inside a word"
+
+
+def _plain(lines):
+    """The digits of lines that all stand as the program prints them, whatever their ends; else None."""
+    data = b"".join(lines).replace(b"\r\n", b"\n")
+    count = len(lines)
+    if len(data) != LINE_BYTES * count or data[LINE_BYTES - 1 :: LINE_BYTES] != b"\n" * count:
+        return None
+    if any(data[place::LINE_BYTES] != b" " * count for place in (8, 17, 26)):
+        return None
+    digits = data.translate(None, b" \n")
+    return digits if len(digits) == 32 * count else None
+
+
+def numbers_of(lines):
+    """The numbers of log lines, four each, or None where one of them is no such line."""
+    digits = _plain(lines)
+    if digits is None:
+        matches = [LINE.match(line) for line in lines]
+        if None in matches:
+            return None
+        digits = b"".join(b"".join(match.groups()) for match in matches)
+    try:
+        numbers, _ = words_of(unhexlify(digits))
+    except Error:
+        return None
+    numbers.byteswap()
+    return numbers

@@ -1,0 +1,156 @@
+"""The report: figures as tables for people, as CSV and as JSON."""
+
+import csv
+import io
+import json
+
+from .formats import QUEUE_FULL, REFUSALS
+from .tables import aligned, grouped
+
+# The table's columns, and the groups that they stand in.
+GROUPS = (("", 1), ("offers", 2), ("", 1), ("waits in cycles", 4), ("turns", 2), ("dead times", 1), ("", 1), ("turns in a whole epoch", 4))
+HEAD = ("class", "taken", "refused %d" % QUEUE_FULL, "answers", "mean", "median", "95th", "longest", "owned", "idle", "dropped", "activates", "least", "most", "minimum", "cap")
+CSV_HEAD = (
+    "folder",
+    "class",
+    "name",
+    "offers_taken",
+    "offers_refused_%d" % QUEUE_FULL,
+    "answers",
+    "wait_sum",
+    "wait_mean",
+    "wait_median",
+    "wait_95th",
+    "wait_longest",
+    "turns_owned",
+    "turns_idle",
+    "dead_times_dropped",
+    "activates",
+    "whole_epochs",
+    "epoch_turns_least",
+    "epoch_turns_most",
+    "minimum",
+    "cap",
+)
+
+
+def plural(count, one, several=None):
+    return "%d %s" % (count, one if count == 1 else several or one + "s")
+
+
+def _shown(value, form="%d"):
+    """A number that there may be none of."""
+    return "-" if value is None else form % value
+
+
+def _extremes(figures, number):
+    """The least and the most turns of a class in a whole epoch; None where there is none."""
+    turns = figures.turns_in_epochs(number)
+    return (min(turns), max(turns)) if turns else (None, None)
+
+
+def _row(figures, names, number):
+    service, policy = figures.services[number], figures.policy
+    least, most = _extremes(figures, number)
+    return (
+        names.of(number),
+        service.taken,
+        service.full,
+        service.answers,
+        _shown(service.mean, "%.2f"),
+        _shown(service.median),
+        _shown(service.rank(95)),
+        _shown(service.longest),
+        service.turns,
+        service.idle,
+        service.elided,
+        service.activates,
+        _shown(least),
+        _shown(most),
+        policy.minimums[number],
+        policy.cap(number),
+    )
+
+
+def _run_lines(figures, name):
+    """What is said of a whole run."""
+    epochs = "%s of %s" % (plural(figures.epochs, "whole epoch"), plural(figures.policy.epoch, "turn"))
+    lines = ["%s: %s, %s, %s" % (name, plural(figures.ticks, "cycle"), plural(figures.turns, "turn"), epochs)]
+    if figures.ticks:
+        wires = "command wires busy in %d of %s (%.1f %%)" % (figures.busy, plural(figures.ticks, "cycle"), figures.busy_percent)
+        lines.append("%s: %s, %s" % (wires, plural(figures.activates, "activate"), plural(figures.columns, "column command")))
+    for status, count in sorted(figures.refusals.items()):
+        lines.append("refused with %d: %s (%s)" % (status, plural(count, "call"), REFUSALS[status].when))
+    return lines
+
+
+def _epoch_lines(figures, names):
+    """Every epoch's turns, class by class, below caps and minimums."""
+    classes, epoch = figures.policy.classes, figures.policy.epoch
+    rows = [["epoch", *(names.of(number) for number in range(classes))]]
+    rows += [["minimum", *figures.policy.minimums], ["cap", *(figures.policy.cap(number) for number in range(classes))]]
+    rows += [[number, *figures.whole[number * classes : (number + 1) * classes]] for number in range(figures.epochs)]
+    if figures.part:
+        rows.append(["%d, %d of %s" % (figures.epochs, sum(figures.part), plural(epoch, "turn")), *figures.part])
+    return aligned(rows)
+
+
+def text_of(figures, names, name, epochs=False):
+    """A run's figures as a table."""
+    lines = _run_lines(figures, name)
+    lines += ["", *grouped(GROUPS, [HEAD, *(_row(figures, names, number) for number in range(figures.policy.classes))])]
+    if epochs:
+        lines += ["", "turns owned in each epoch", *_epoch_lines(figures, names)]
+    return "\n".join(lines) + "\n"
+
+
+def csv_of(reported):
+    """One row for each folder and class; `reported` has a folder's name, its figures and its classes' names."""
+    out = io.StringIO()
+    writer = csv.writer(out, lineterminator="\n")
+    writer.writerow(CSV_HEAD)
+    for name, figures, names in reported:
+        for number, service in enumerate(figures.services):
+            mean = None if service.mean is None else "%.3f" % service.mean
+            waits = [service.waited, mean, service.median, service.rank(95), service.longest]
+            turns = [service.turns, service.idle, service.elided, service.activates, figures.epochs, *_extremes(figures, number)]
+            allowed = [figures.policy.minimums[number], figures.policy.cap(number)]
+            writer.writerow([name, number, names.of(number), service.taken, service.full, service.answers, *waits, *turns, *allowed])
+    return out.getvalue()
+
+
+def _class_value(figures, names, number, epochs):
+    service = figures.services[number]
+    least, most = _extremes(figures, number)
+    whole = {"minimum": figures.policy.minimums[number], "cap": figures.policy.cap(number), "least": least, "most": most}
+    if epochs:
+        whole["each"] = list(figures.turns_in_epochs(number))
+    return {
+        "class": number,
+        "name": names.of(number),
+        "offers": {"taken": service.taken, "refused_%d" % QUEUE_FULL: service.full},
+        "answers": service.answers,
+        "waits": {"sum": service.waited, "mean": service.mean, "median": service.median, "95th": service.rank(95), "longest": service.longest},
+        "turns": {"owned": service.turns, "idle": service.idle, "dead_times_dropped": service.elided},
+        "activates": service.activates,
+        "whole_epochs": whole,
+    }
+
+
+def _run_value(figures, names, epochs):
+    return {
+        "ticks": figures.ticks,
+        "turns": figures.turns,
+        "whole_epochs": figures.epochs,
+        "turns_in_an_epoch": figures.policy.epoch,
+        "command_wires": {"busy": figures.busy, "busy_percent": figures.busy_percent, "activates": figures.activates, "columns": figures.columns},
+        "refusals": {str(status): count for status, count in sorted(figures.refusals.items())},
+        "classes": [_class_value(figures, names, number, epochs) for number in range(figures.policy.classes)],
+    }
+
+
+def json_of(reported, together, epochs=False):
+    """The same as JSON: each folder, and, where they have one policy, all of them together."""
+    folders = [{"folder": name, **_run_value(figures, names, epochs)} for name, figures, names in reported]
+    value = {"folders": folders, "all": None if together is None else _run_value(together, reported[0][2], False)}
+    return json.dumps(value, indent=2) + "\n"

@@ -1,0 +1,65 @@
+"""What a policy means, for the person who signs it off: the flows as a table and in words, minimums and caps, the timing."""
+
+from .minimums import beside, minimum_words
+from .policies import TIMING
+from .tables import aligned
+
+# The widest table of flows with names above its columns; a wider one has numbers there.
+WIDEST = 120
+
+
+def _table(rows):
+    return aligned(rows, len(rows[0]))
+
+
+def _names(numbers, names):
+    return ", ".join(names.of(number) for number in numbers)
+
+
+def flow_table(policy, names):
+    """Which class may flow to which."""
+    numbers = range(policy.classes)
+    heads = [names.of(number) for number in numbers]
+    if sum(len(head) + 2 for head in heads) + names.width(policy.classes) > WIDEST:
+        heads = [str(number) for number in numbers]
+    rows = [["", "from \\ to"] + heads]
+    for i in numbers:
+        rows.append([str(i), names.of(i)] + ["yes" if policy.flows(i, j) else "-" for j in numbers])
+    return _table(rows)
+
+
+def flow_words(policy, names):
+    """The flows once more, class by class, with those that a class is kept apart from."""
+    lines = []
+    for number in range(policy.classes):
+        above, apart = policy.above(number), beside(policy, number)
+        to = "%s may flow to %s" % (names.of(number), _names(above, names) + " and itself" if above else "itself alone")
+        if number == policy.least:
+            to += " (the least class)"
+        lines.append(to + ("; kept apart from %s (no flow either way)" % _names(apart, names) if apart else "") + ".")
+    return lines
+
+
+def turn_table(policy, names):
+    rows = [["", "class", "minimum", "cap", "directly above, by mark"]]
+    for number in range(policy.classes):
+        rows.append([str(number), names.of(number), str(policy.minimums[number]), str(policy.cap(number)), _names(policy.covers(number), names) or "nothing"])
+    return _table(rows)
+
+
+def timing_table(policy):
+    return _table([[words, str(cycles)] for (_, words), cycles in zip(TIMING, policy.timing)])
+
+
+def sign_off(policy, names):
+    """All of it, as lines."""
+    parts = (
+        ("Flows: a class in a row may flow to the classes with a yes", flow_table(policy, names) + [""] + flow_words(policy, names)),
+        ("Turns: an epoch of %d; minimums add up to %d" % (policy.epoch, sum(policy.minimums)), turn_table(policy, names)),
+        ("What a minimum does, and does not do", minimum_words(policy, names)),
+        ("Timing, in cycles", timing_table(policy)),
+    )
+    lines = []
+    for title, body in parts:
+        lines += [title] + ["  " + line if line else "" for line in body] + [""]
+    return lines

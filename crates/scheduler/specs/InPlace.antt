@@ -1,21 +1,19 @@
 -- What the functions that work in place are lent: the arrays of a policy, and those of a state with its other numbers. And what a call in place rests on, and leaves.
 use mathlib.Core.Path.{_≡_}
-use mathlib.Core.Bool.{true}
+use mathlib.Core.Bool.{Bool, true}
 use mathlib.Core.List.{List}
 use Prim.Native.Nat.{ℕ, _+_, _%_}
 use Rattle.policy.specs.Policy.{least}
 use Rattle.policy.specs.Policy.{inRange as policyInRange}
 use Rattle.policy.specs.declared.Timing.{Timing}
 use Rattle.policy.specs.declared.Policy.{Policy}
-use Rattle.rules.specs.Step.{TurnStart, Bus}
+use Rattle.rules.specs.Step.{TurnStart}
 use Rattle.state.specs.Stored.{queuesOf, turnsOf, flightOf}
 use Rattle.state.specs.Range.{inRange}
 use Rattle.rules.specs.Calls.{Answer}
 use Rattle.scheduler.specs.declared.turning.Owned.{Owned}
 use Rattle.scheduler.specs.declared.ticking.Moment.{Moment}
 use Rattle.scheduler.specs.declared.ticking.Called.{Called}
-use Rattle.state.specs.declared.Queues.{Queues}
-use Rattle.state.specs.declared.Flight.{Flight}
 use Rattle.state.specs.declared.State.{State}
 
 -- what is lent beside a policy in range is the policy's: its least class, its rows, covers and caps
@@ -43,16 +41,16 @@ momentOf p s =
 abbrev pub InStep : Policy → Moment → Type 0
 InStep p m = m .offset ≡ m .cycle % p .timing .turn
 
--- the numbers a cycle later, with another last activate
-abbrev pub nextMoment : Timing → Moment → ℕ → Moment
-nextMoment timing m last =
+-- the numbers a cycle later, with the turn's owner and its elision and another last activate
+abbrev pub nextMoment : Timing → Moment → ℕ → Bool → ℕ → Moment
+nextMoment timing m owner elided last =
     record {
       cycle = m .cycle + 1;
       offset = (m .cycle + 1) % timing .turn;
       bottom = m .bottom;
       classes = m .classes;
-      owner = m .owner;
-      elided = m .elided;
+      owner = owner;
+      elided = elided;
       last = last;
     }
 
@@ -67,11 +65,6 @@ stateOf m slots heads lengths left pointers columns responses banks =
       turns = turnsOf (m .owner) (m .elided) left pointers;
       flight = flightOf columns responses banks (m .last);
     }
-
--- the command bus, of the numbers and arrays that are worked on
-abbrev pub busOf : Timing → Moment → Queues → Flight → Bus
-busOf timing m queues flight =
-    record { timing = timing; cycle = m .cycle; owner = m .owner; elided = m .elided; queues = queues; flight = flight }
 
 -- what a tick's first step left, of its numbers and arrays
 abbrev pub startOf : Owned → List ℕ → List ℕ → TurnStart

@@ -22,9 +22,7 @@ use state::State;
 use ticking::Called;
 use ticking::Moment;
 
-mod driving;
 mod lookahead;
-mod queueing;
 mod ticking;
 mod traversal;
 mod turning;
@@ -101,7 +99,7 @@ fn call_at(
             )
         }
         Call::Offer(r) => {
-            let status = queueing::offer(m.classes, slots, heads, lengths, r, word);
+            let status = wires::offer(m.classes, slots, heads, lengths, r, word);
             answered(m, status)
         }
         Call::Malformed => answered(m, 14),

@@ -8,7 +8,6 @@ ghost use Rattle.state.specs.declared.State.{State};
 ghost use Rattle.rules.specs.Call.{afterTick};
 ghost use Rattle.rules.specs.Calls.{ticked};
 ghost use Rattle.scheduler.specs.InPlace.{momentOf, nextMoment, stateOf, answerOf, Working, Continues};
-use super::driving;
 use super::turning;
 use policy::Policy;
 use policy::Timing;
@@ -20,6 +19,7 @@ use state::Slots;
 use state::State;
 use state::Turns;
 use state::stored;
+use wires::Instant;
 
 // The numbers of a state that stand in no array, and two that need not be worked out at each tick: the offset in the turn, and the policy's least class.
 pub struct Moment {
@@ -112,18 +112,18 @@ fn next_offset(timing: Timing, cycle: u32, offset: u32) -> u32
     }
 }
 
-// The numbers a cycle later.
-fn next_moment(timing: Timing, m: Moment, last: u32) -> Moment
+// The numbers a cycle later, with the turn's owner and its elision and another last activate.
+fn next_moment(timing: Timing, m: Moment, owner: usize, elided: bool, last: u32) -> Moment
     requires { ⌜ TimingLaws timing × (m .offset ≡ m .cycle % timing .turn) × (m .cycle < lastCycle) ⌝ }
-    ensures { λ r. ⌜ r ≡ nextMoment timing m last ⌝ }
+    ensures { λ r. ⌜ r ≡ nextMoment timing m owner elided last ⌝ }
 {
     Moment {
         cycle: m.cycle + 1,
         offset: next_offset(timing, m.cycle, m.offset),
         bottom: m.bottom,
         classes: m.classes,
-        owner: m.owner,
-        elided: m.elided,
+        owner,
+        elided,
         last,
     }
 }
@@ -154,27 +154,16 @@ pub(crate) fn tick_in_place(
 {
     let timing = p.timing;
     let owned = turning::turns_at(p, m, rows, covers, caps, lengths, left, pointers);
-    let turned = Moment {
+    let at = Instant {
         cycle: m.cycle,
         offset: m.offset,
-        bottom: m.bottom,
-        classes: m.classes,
         owner: owned.owner,
         elided: owned.elided,
         last: m.last,
     };
-    let drove = driving::drive(
-        timing,
-        turned,
-        slots,
-        heads,
-        lengths,
-        columns,
-        responses,
-        banks,
-    );
+    let drove = wires::drive(timing, at, slots, heads, lengths, columns, responses, banks);
     let response = stored::take_due(m.cycle, responses);
-    let moment = next_moment(timing, turned, drove.last);
+    let moment = next_moment(timing, m, owned.owner, owned.elided, drove.last);
     Called {
         moment,
         status: 0,

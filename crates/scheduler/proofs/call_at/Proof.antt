@@ -6,7 +6,7 @@ use borrow.Author.Needs.{needs}
 use borrow.Author.Tests.{lt-ltb, le-ltb}
 use Rattle.requests.specs.Sizes.{lastCycle}
 use Rattle.requests.specs.Word.{commandNumber}
-use Rattle.state.specs.Stored.{headOf, queuesOf}
+use Rattle.state.specs.Stored.{queuesOf}
 use Rattle.requests.specs.Trace.{callOf}
 use Rattle.rules.specs.Call.{offerOn, silent}
 use Rattle.rules.specs.Calls.{Answer, ticked, offered, answerTo}
@@ -18,6 +18,7 @@ use Rattle.requests.specs.declared.Call.{Call}
 use Rattle.rules.proofs.Range.{ranged, small-classes}
 use Rattle.requests.proofs.Trace.{offer-word}
 use Rattle.rules.proofs.Call.{offer-is, tick-is, tick-late, called-tick, called-offer, called-malformed}
+use Rattle.wires.proofs.InPlace.{queued-by}
 use Rattle.scheduler.proofs.InPlace.{with-numbers}
 use Rattle.scheduler.proofs.call_at.Statement.{statement}
 use Rattle.scheduler.proofs.call_at.Tie as tie
@@ -94,13 +95,7 @@ enum-known-call : tie.Need-enum-known-call
 enum-known-call c = search needs
 
 offer-requires : tie.Need-offer-requires
-unfolding headOf
-offer-requires c κs =
-    let call = c .before .before .before .before in
-    let at = call .before .before in
-    let s = start-told at in
-    let r = ranged (s .args .p) (given s) (s .pre .ranges) in
-    (small-classes (s .args .p) (given s) r, λ k l. r .queues .queue k l .in-ring, offer-word (s .args .word) _ (told at _ (call .call .given .1)))
+offer-requires c κs = search needs
 
 answered-requires-2 : tie.Need-answered-requires-2
 answered-requires-2 c κs = search needs
@@ -130,9 +125,11 @@ returns-3 c =
     let at = at-offer offer in
     let s = start-told at in
     let call = offer .before .before .before .before .before in
-    let did = offer .offer .ensures in (
+    let did = offer .offer .ensures in
+    let status = did .0 (small-classes (s .args .p) (given s) (ranged (s .args .p) (given s) (s .pre .ranges))) in
+    let queues = did .1 ∙ queued-by (s .args .m .classes) (given s .queues) _ _ _ status (offer-word (s .args .word) _ (told at _ (call .call .given .1))) in (
       ap (left-by (queued (given s) (queuesOf (offer .offer .last .1 .0) (s .args .heads .now) (offer .offer .last .1 .1 .1 .0)))) (c .answered2 .ensures)
-          ∙ ap₂ (λ (k : ℕ) (q : Queues). record { state = queued (given s) q; status = k; command = 0; response = 0; turn = 0 }) (did .0) (did .1)
+          ∙ ap₂ (λ (k : ℕ) (q : Queues). record { state = queued (given s) q; status = k; command = 0; response = 0; turn = 0 }) status queues
           ∙ sym (called-offer (s .args .p) (given s) (s .args .word) _ (told at _ (call .call .given .1)) ∙ ap offered (offer-is (s .args .p) (given s) (s .pre .ranges) _)),
       stays-by s (c .answered2 .result) (c .answered2 .ensures),
     )

@@ -1,4 +1,4 @@
--- `scheduler::queueing::enqueue` meets its contract: a place of a class's ring is one of the 128.
+-- `wires::queueing::enqueue` meets its contract: a place of a class's ring is one of the 128.
 -- Assumes nothing.
 use native.Mathlib.Omega.{arith}
 use borrow.Author.Needs.{needs}
@@ -6,8 +6,8 @@ use lib.ListN.{getD}
 use Rattle.state.specs.Stored.{headOf, lengthOf, place}
 use Rattle.state.proofs.Rings.{of-class}
 use Rattle.rules.specs.Queue.{enqueue}
-use Rattle.scheduler.proofs.queueing.enqueue.Statement.{statement}
-use Rattle.scheduler.proofs.queueing.enqueue.Tie as tie
+use Rattle.wires.proofs.queueing.enqueue.Statement.{statement}
+use Rattle.wires.proofs.queueing.enqueue.Tie as tie
 
 mul-head : tie.Need-mul-head
 mul-head c = search needs

@@ -1,12 +1,12 @@
--- `scheduler::driving::head_of` meets its contract: a place of a class's ring is one of the 128.
+-- `wires::driving::head_of` meets its contract: a place of a class's ring is one of the 128.
 -- Assumes nothing.
 use native.Mathlib.Omega.{arith}
 use borrow.Author.Needs.{needs}
 use lib.ListN.{getD}
 use Rattle.state.specs.Stored.{place}
 use Rattle.state.proofs.Rings.{of-class}
-use Rattle.scheduler.proofs.driving.head_of.Statement.{statement}
-use Rattle.scheduler.proofs.driving.head_of.Tie as tie
+use Rattle.wires.proofs.driving.head_of.Statement.{statement}
+use Rattle.wires.proofs.driving.head_of.Tie as tie
 
 mul-place : tie.Need-mul-place
 mul-place c = search needs
@@ -26,7 +26,7 @@ unfolding place
 element-copy-out-result c = omega (arith, c .place .ensures)
 
 returns : tie.Need-returns
-returns c = let s = c .before .before .before in rw (c .before .place .ensures, of-class (s .args .class) (getD (s .args .heads .now) (s .args .class) 0) 0 (s .pre .0))
+returns c = let s = c .before .before .before in rw (c .before .place .ensures, of-class (s .args .class) (getD (s .args .heads .now) (s .args .class) 0) 0 (s .pre))
 
 pub head-of-spec : {M : Type 1} → statement M
 head-of-spec =

@@ -1,0 +1,58 @@
+// The parts of driving the command wires: the offset in the turn, the head of a queue, and an activate.
+
+ghost use mathlib.Core.Path.{_≡_};
+ghost use mathlib.Core.Bool.{_||_};
+ghost use Prim.Native.Nat.{_-_, _<_};
+ghost use lib.Dec.{ltb};
+ghost use lib.ListN.{getD};
+ghost use Rattle.requests.specs.Sizes.{lastCycle, bankCount};
+ghost use Rattle.requests.specs.Word.{kindOf, bankOf};
+ghost use Rattle.state.specs.Stored.{place, flightOf};
+ghost use Rattle.rules.specs.Wire.{activated};
+use policy::Timing;
+use requests::BANK_COUNT;
+use requests::words;
+use state::Banks;
+use state::PENDING_PLACES;
+use state::Pending;
+use state::Slots;
+use state::stored;
+
+// The owner may activate at offsets before the dead time, or at all offsets if it is elided.
+pub(crate) fn offset_allows(timing: Timing, elided: bool, offset: u32) -> bool
+    ensures { λ r. ⌜ r ≡ (elided || ltb offset (timing .turn - timing .dead)) ⌝ }
+{
+    elided | (offset as u64 + (timing.dead as u64) < timing.turn as u64)
+}
+
+// An activate brings its column command and its response after their delays, and is the last activate of its bank and of all.
+pub(crate) fn activate(
+    timing: Timing,
+    cycle: u32,
+    word: u32,
+    columns: &mut Pending,
+    responses: &mut Pending,
+    banks: &mut Banks,
+) -> u32
+    ensures { λ r. ⌜ ((cycle < lastCycle) × (bankOf word < bankCount) × (kindOf word < 2)
+        → flightOf (now (columns .exit)) (now (responses .exit)) (now (banks .exit)) r
+        ≡ activated timing (now (columns .entry)) (now (responses .entry)) (now (banks .entry)) word cycle) ⌝ }
+{
+    let column = (std::num::wrapping_add_u32(cycle, timing.column) % PENDING_PLACES) as usize;
+    let response = (std::num::wrapping_add_u32(cycle, timing.response) % PENDING_PLACES) as usize;
+    let bank = words::bank_of(word) as usize % BANK_COUNT;
+    let last = stored::activate_at(cycle, words::kind_of(word));
+    columns[column] = word;
+    responses[response] = word;
+    banks[bank] = last;
+    last
+}
+
+// The word at the head of a class's queue.
+pub(crate) fn head_of(slots: &Slots, heads: &[usize; 16], class: usize) -> u32
+    requires { ⌜ class < 16 ⌝ }
+    ensures { λ r. ⌜ r ≡ getD (now (slots .entry)) (place class (getD (now (heads .entry)) class 0) 0) 0 ⌝ }
+{
+    let place = stored::place(class, heads[class], 0);
+    slots[place]
+}

@@ -6,9 +6,9 @@ use lib.Dec.{leb, ltb, eqb}
 use lib.ListN.{getD, set}
 use Rattle.policy.specs.declared.Timing.{Timing}
 use Rattle.requests.specs.Sizes.{pendingPlaces}
-use Rattle.state.specs.Stored.{activateAt, activateNext, activateKind}
+use Rattle.flight.specs.Flight.{activateAt, activateNext, activateKind}
 use Rattle.requests.specs.Word.{kindOf, bankOf}
-use Rattle.state.specs.declared.Flight.{Flight}
+use Rattle.flight.specs.declared.Flight.{Flight}
 
 -- ---- gaps
 

@@ -8,14 +8,16 @@ use Rattle.policy.specs.Policy.{inRange as policyInRange}
 use Rattle.policy.specs.declared.Timing.{Timing}
 use Rattle.policy.specs.declared.Policy.{Policy}
 use Rattle.rules.specs.Step.{TurnStart, Bus}
-use Rattle.state.specs.Stored.{queuesOf, turnsOf, flightOf}
+use Rattle.queues.specs.Waiting.{queuesOf}
+use Rattle.state.specs.Stored.{turnsOf}
+use Rattle.flight.specs.Flight.{flightOf}
 use Rattle.state.specs.Range.{inRange}
 use Rattle.rules.specs.Calls.{Answer}
 use Rattle.scheduler.specs.declared.turning.Owned.{Owned}
 use Rattle.scheduler.specs.declared.ticking.Moment.{Moment}
 use Rattle.scheduler.specs.declared.ticking.Called.{Called}
-use Rattle.state.specs.declared.Queues.{Queues}
-use Rattle.state.specs.declared.Flight.{Flight}
+use Rattle.queues.specs.declared.Queues.{Queues}
+use Rattle.flight.specs.declared.Flight.{Flight}
 use Rattle.state.specs.declared.State.{State}
 
 -- what is lent beside a policy in range is the policy's: its least class, its rows, covers and caps

@@ -6,20 +6,20 @@ ghost use lib.ListN.{getD};
 ghost use Rattle.policy.specs.Laws.{TimingLaws};
 ghost use Rattle.requests.specs.Sizes.{lastCycle, ringPlaces, bankCount};
 ghost use Rattle.requests.specs.Word.{kindOf, bankOf, commandNumber};
-ghost use Rattle.state.specs.Stored.{place, queuesOf, flightOf};
+ghost use Rattle.queues.specs.Waiting.{place, queuesOf};
+ghost use Rattle.flight.specs.Flight.{flightOf};
 ghost use Rattle.rules.specs.Wire.{offsetAllows, activated};
 ghost use Rattle.rules.specs.Step.{Bus, drive};
 ghost use Rattle.rules.specs.Ready.{Ready};
 ghost use Rattle.scheduler.specs.InPlace.{busOf};
 use super::queueing;
 use super::ticking::Moment;
+use flight::Banks;
+use flight::PENDING_PLACES;
+use flight::Pending;
 use policy::Timing;
+use queues::Slots;
 use requests::words;
-use state::Banks;
-use state::PENDING_PLACES;
-use state::Pending;
-use state::Slots;
-use state::stored;
 
 // What the wires carried, as its number in the log, and the last activate of all after it.
 pub struct Drove {
@@ -51,7 +51,7 @@ fn activate(
     let column = ((cycle + timing.column) % PENDING_PLACES) as usize;
     let response = ((cycle + timing.response) % PENDING_PLACES) as usize;
     let bank = words::bank_of(word) as usize;
-    let last = stored::activate_at(cycle, words::kind_of(word));
+    let last = flight::activate_at(cycle, words::kind_of(word));
     columns[column] = word;
     responses[response] = word;
     banks[bank] = last;
@@ -63,7 +63,7 @@ fn head_of(slots: &Slots, heads: &[usize; 16], class: usize) -> u32
     requires { ⌜ (class < 16) × (getD (now heads) class 0 < ringPlaces) ⌝ }
     ensures { λ r. ⌜ r ≡ getD (now (slots .entry)) (place class (getD (now (heads .entry)) class 0) 0) 0 ⌝ }
 {
-    let place = stored::place(class, heads[class], 0);
+    let place = queues::place(class, heads[class], 0);
     slots[place]
 }
 

@@ -5,15 +5,14 @@ ghost use Prim.Native.Nat.{ℕ, _+_, _-_, _%_, _<_};
 ghost use lib.ListN.{getD, set};
 ghost use Rattle.order.specs.Laws.{SmallClasses};
 ghost use Rattle.requests.specs.Word.{wordOf};
-ghost use Rattle.state.specs.Stored.{place, queuesOf};
+ghost use Rattle.queues.specs.Waiting.{place, queuesOf};
 ghost use Rattle.rules.specs.Queue.{enqueue, offerStatus, queuesAfter};
 ghost use Rattle.requests.specs.Sizes.{ringPlaces};
-ghost use Rattle.state.specs.declared.Queues.{Queues};
+ghost use Rattle.queues.specs.declared.Queues.{Queues};
+use queues::RING_PLACES;
+use queues::Slots;
 use requests::Request;
 use requests::words;
-use state::RING_PLACES;
-use state::Slots;
-use state::stored;
 
 // Puts a word at the end of a class's queue, which is not full.
 pub(crate) fn enqueue(
@@ -29,7 +28,7 @@ pub(crate) fn enqueue(
 {
     let head = heads[class];
     let length = lengths[class];
-    slots[stored::place(class, head, length)] = word;
+    slots[queues::place(class, head, length)] = word;
     lengths[class] = length + 1;
 }
 

@@ -10,16 +10,15 @@ ghost use Rattle.rules.specs.Calls.{ticked};
 ghost use Rattle.scheduler.specs.InPlace.{momentOf, nextMoment, stateOf, answerOf, Working, Continues};
 use super::driving;
 use super::turning;
+use flight::Banks;
+use flight::Flight;
+use flight::Pending;
 use policy::Policy;
 use policy::Timing;
-use state::Banks;
-use state::Flight;
-use state::Pending;
-use state::Queues;
-use state::Slots;
+use queues::Queues;
+use queues::Slots;
 use state::State;
 use state::Turns;
-use state::stored;
 
 // The numbers of a state that stand in no array, and two that need not be worked out at each tick: the offset in the turn, and the policy's least class.
 pub struct Moment {
@@ -173,7 +172,7 @@ pub(crate) fn tick_in_place(
         responses,
         banks,
     );
-    let response = stored::take_due(m.cycle, responses);
+    let response = flight::take_due(m.cycle, responses);
     let moment = next_moment(timing, turned, drove.last);
     Called {
         moment,

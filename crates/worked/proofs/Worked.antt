@@ -24,7 +24,8 @@ use Rattle.file.specs.declared.Reading.{Reading}
 use Rattle.basics.proofs.Truth.{either, not-both, and-fails-left, or-cases, on-true}
 use Rattle.policy.proofs.Laws.{policy-laws}
 use Rattle.requests.specs.Word.{classOf, kindOf, bankOf, tagOf, isOffer, requestOf, wordOf, classFits, bankAndKindFit, columnNumber, commandNumber}
-use Rattle.state.specs.Stored.{headOf, lengthOf, place, waitingAt, dueAt, activateAt, activateNext, activateKind, sentAt}
+use Rattle.queues.specs.Waiting.{headOf, lengthOf, place, waitingAt}
+use Rattle.flight.specs.Flight.{dueAt, activateAt, activateNext, activateKind, sentAt}
 use Rattle.rules.specs.Queue.{enqueue, dequeue, offerStatus, queuesAfter}
 use Rattle.rules.specs.Traversal.{firstClass, candidates, moved, movedPointer, reachedAt, named, takesBy, takes, endsAt, tryClass, charge}
 use Rattle.rules.specs.Lookahead.{goesOn, reaches, aheadOf, nextLeft, elides}

@@ -10,7 +10,7 @@ use Rattle.basics.proofs.Truth.{not-true, not-not, on-true, on-false}
 use Rattle.requests.specs.Word.{classFits, bankAndKindFit, wordOf}
 use Rattle.rules.specs.Queue.{enqueue, offerStatus, queuesAfter}
 use Rattle.requests.specs.declared.Request.{Request}
-use Rattle.state.specs.declared.Queues.{Queues}
+use Rattle.queues.specs.declared.Queues.{Queues}
 use Rattle.scheduler.proofs.queueing.offer.Statement.{statement}
 use Rattle.scheduler.proofs.queueing.offer.Tie as tie
 

@@ -6,13 +6,13 @@ use Prim.Native.Nat.{ℕ, _+_, _<_}
 use borrow.Author.Needs.{needs}
 use Rattle.policy.proofs.Laws.{policy-laws}
 use Rattle.requests.specs.Word.{commandNumber}
-use Rattle.state.specs.Stored.{dueAt, flightOf}
+use Rattle.flight.specs.Flight.{dueAt, flightOf}
 use Rattle.rules.specs.Step.{TurnStart, turnsAt, Driven, Bus, drive, answered}
 use Rattle.rules.specs.Call.{busAt, afterTick}
 use Rattle.rules.specs.Calls.{Answer}
 use Rattle.scheduler.specs.InPlace.{stateOf, startOf}
-use Rattle.state.specs.declared.Queues.{Queues}
-use Rattle.state.specs.declared.Flight.{Flight}
+use Rattle.queues.specs.declared.Queues.{Queues}
+use Rattle.flight.specs.declared.Flight.{Flight}
 use Rattle.state.specs.declared.State.{State}
 use Rattle.rules.proofs.Step.{turn-owner}
 use Rattle.rules.proofs.Range.{Ranged, ranged, BusRange, bus-range, ready}

@@ -6,7 +6,7 @@ ghost use Prim.Native.Nat.{_-_, _%_};
 ghost use Rattle.rules.specs.Traversal.{moved, takesBy};
 ghost use Rattle.rules.specs.Wire.{gapMet, gapsMetBy};
 ghost use Rattle.rules.specs.Step.{turnWord};
-use policy::Timing;
+use timing::Timing;
 
 // The round-robin pointer, moved on by 1: from the number of covers back to 1, and 0 where there are none.
 pub fn moved(covers: u16, pointer: usize) -> usize

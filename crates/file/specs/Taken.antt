@@ -10,7 +10,7 @@ use lib.ListN.{length}
 use Rattle.basics.specs.Below.{sum, listOf}
 use Rattle.order.specs.Mask.{member}
 use Rattle.order.specs.Order.{isClassIn, coverSet}
-use Rattle.policy.specs.Turns.{capIn}
+use Rattle.turns.specs.Turns.{capIn}
 use Rattle.policy.specs.Policy.{inRange}
 use Rattle.file.specs.File.{byte, word, readFile}
 use Rattle.order.specs.Laws.{Reflexive, Antisymmetric, Transitive, Least}

@@ -5,7 +5,7 @@ use Prim.Native.Nat.{ℕ, _+_, _*_, _/_, _%_}
 use lib.Dec.{leb, ltb, eqb}
 use lib.ListN.{getD, set}
 use Rattle.basics.specs.Below.{every}
-use Rattle.policy.specs.declared.Timing.{Timing}
+use Rattle.timing.specs.declared.Timing.{Timing}
 use Rattle.requests.specs.Sizes.{pendingPlaces, bankCount}
 use Rattle.requests.specs.Word.{soundWord}
 use Rattle.flight.specs.declared.Flight.{Flight}

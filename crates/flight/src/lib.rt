@@ -6,9 +6,9 @@ ghost use lib.ListN.{getD};
 ghost use Rattle.basics.specs.Below.{every};
 ghost use Rattle.requests.specs.Sizes.{bankCount};
 ghost use Rattle.flight.specs.Flight.{dueAt, sentAt, activateAt, activateNext, activateKind, activateInRange, pendingInRange, flightInRange};
-use policy::Timing;
 use requests::BANK_COUNT;
 use requests::words;
+use timing::Timing;
 
 // The pending places; and the arrays of a word for each pending place and of a last activate for each bank.
 pub const PENDING_PLACES: u32 = 32;

@@ -9,7 +9,7 @@ use Prim.Native.Nat.{ℕ, _+_, _*_, _≤_, _<_}
 use native.Mathlib.Omega.{arith}
 use lib.ListN.{length, getD, set}
 use Rattle.policy.specs.Laws.{TimingLaws}
-use Rattle.policy.specs.declared.Timing.{Timing}
+use Rattle.timing.specs.declared.Timing.{Timing}
 use Rattle.basics.proofs.Stores.{stored-at, stored-in-both}
 use Rattle.requests.specs.Word.{kindOf, bankOf}
 use Rattle.rules.specs.Wire.{gapMet, gapsMetBy, gapsMet}

@@ -15,7 +15,7 @@ use Rattle.policy.specs.Laws.{TimingLaws}
 use Rattle.order.specs.Laws.{SmallClasses}
 use Rattle.policy.specs.Policy.{isClass, coverCount, cap}
 use Rattle.policy.specs.Policy.{inRange as policyInRange}
-use Rattle.policy.specs.declared.Timing.{Timing}
+use Rattle.timing.specs.declared.Timing.{Timing}
 use Rattle.policy.specs.declared.Policy.{Policy}
 use Rattle.basics.proofs.Truth.{not-both, and-left, and-right, and-three, and-both, or-left, or-right, or-cases}
 use Rattle.basics.proofs.Below.{lt-or-ge, every-at, every-all}

@@ -5,7 +5,7 @@ use mathlib.Core.List.{List}
 use Prim.Native.Nat.{ℕ, _+_, _%_}
 use Rattle.policy.specs.Policy.{least}
 use Rattle.policy.specs.Policy.{inRange as policyInRange}
-use Rattle.policy.specs.declared.Timing.{Timing}
+use Rattle.timing.specs.declared.Timing.{Timing}
 use Rattle.policy.specs.declared.Policy.{Policy}
 use Rattle.rules.specs.Step.{TurnStart, Bus}
 use Rattle.queues.specs.Waiting.{queuesOf}

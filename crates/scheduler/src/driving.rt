@@ -17,9 +17,9 @@ use super::ticking::Moment;
 use flight::Banks;
 use flight::PENDING_PLACES;
 use flight::Pending;
-use policy::Timing;
 use queues::Slots;
 use requests::words;
+use timing::Timing;
 
 // What the wires carried, as its number in the log, and the last activate of all after it.
 pub struct Drove {

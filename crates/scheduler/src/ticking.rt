@@ -14,11 +14,11 @@ use flight::Banks;
 use flight::Flight;
 use flight::Pending;
 use policy::Policy;
-use policy::Timing;
 use queues::Queues;
 use queues::Slots;
 use state::State;
 use state::Turns;
+use timing::Timing;
 
 // The numbers of a state that stand in no array, and two that need not be worked out at each tick: the offset in the turn, and the policy's least class.
 pub struct Moment {

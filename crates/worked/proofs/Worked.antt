@@ -14,8 +14,8 @@ use lib.ListN.{length, getD}
 use Rattle.basics.specs.Below.{every, some, first, count, sum, setOf, listOf}
 use Rattle.order.specs.Mask.{member, includes, size, nth, belowMask}
 use Rattle.order.specs.Order.{isClassIn, flowsIn, strictlyIn, rowFits, rowsFit, antisymmetricAt, antisymmetric, transitiveAt, transitive, hasLeast, leastAt, leastIn, betweenIn, coversIn, coverSet}
-use Rattle.policy.specs.Turns.{minimumsSum, turnsSound, minimumsAbove, capIn}
-use Rattle.policy.specs.Timing.{within, gapsWithin, bankWithin, timingSound}
+use Rattle.turns.specs.Turns.{minimumsSum, turnsSound, minimumsAbove, capIn}
+use Rattle.timing.specs.Timing.{within, gapsWithin, bankWithin, timingSound}
 use Rattle.policy.specs.Policy.{isClass, least, above, coversOf, cap, firstFailing, policyTests, refusal, storedFits, allStoredFits, shaped, inRange}
 use Rattle.file.specs.File.{byte, word, kind, start, bodySize, kindsFit, bodiesAbut, contentsFit, classCount, lengthsFit, rowAt, epochOf, minimumAt, timingOf, held, noPolicy, fileTests, status, refusedWith, readFile}
 use Rattle.file.specs.Taken.{policyOf}

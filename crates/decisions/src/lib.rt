@@ -15,7 +15,7 @@ pub fn moved(covers: u16, pointer: usize) -> usize
     if covers == 0 {
         return 0;
     }
-    if pointer < order::mask::size(covers) {
+    if pointer < masks::size(covers) {
         pointer + 1
     } else {
         1

@@ -5,7 +5,7 @@ use mathlib.Core.Logic.{_↔_}
 use mathlib.Core.Bool.{true}
 use Prim.Native.Nat.{ℕ, _+_, _^_, _≤_, _<_}
 use lib.ListN.{length, getD}
-use Rattle.order.specs.Mask.{member}
+use Rattle.masks.specs.Mask.{member}
 use Rattle.order.specs.Laws.{Reflexive, Least}
 use Rattle.turns.specs.Turns.{minimumsAbove}
 use Rattle.policy.specs.Policy.{isClass, flows, strictly, least, above, coversOf, coverCount, cover, cap}

@@ -65,14 +65,14 @@ pub fn covers_of(p: Policy, class: usize) -> u16
 pub fn cover_count(p: Policy, class: usize) -> usize
     ensures { λ r. ⌜ r ≡ coverCount p class ⌝ }
 {
-    order::mask::size(covers_of(p, class))
+    masks::size(covers_of(p, class))
 }
 
 // The cover with the given number, from 1 by rising class number. Where there is none, which document 01 leaves open, 16: no class.
 pub fn cover(p: Policy, class: usize, number: usize) -> usize
     ensures { λ r. ⌜ r ≡ cover p class number ⌝ }
 {
-    order::mask::nth(covers_of(p, class), number)
+    masks::nth(covers_of(p, class), number)
 }
 
 // The stored cap of a class. For a number that is no class, which document 01 leaves open, 0 in a policy in range.

@@ -5,7 +5,7 @@ ghost use mathlib.Core.Bool.{_&&_};
 ghost use lib.Dec.{leb};
 ghost use lib.ListN.{getD};
 ghost use Rattle.basics.specs.Below.{every};
-ghost use Rattle.order.specs.Mask.{size};
+ghost use Rattle.masks.specs.Mask.{size};
 ghost use Rattle.state.specs.Fresh.{emptyQueues, nothingInFlight, stateAtStart, fresh};
 ghost use Rattle.state.specs.Range.{countsInRange, stateInRange, inRange};
 use flight::Flight;
@@ -82,7 +82,7 @@ fn turns_in_range(
 {
     let mut class = 0;
     while class < 16 {
-        let covered = order::mask::size(covers[class]);
+        let covered = masks::size(covers[class]);
         if !((pointers[class] <= covered) & (left[class] <= caps[class])) {
             return false;
         }

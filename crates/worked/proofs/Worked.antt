@@ -12,7 +12,7 @@ use borrow.Author.Tests.{eqb-true, eq-eqb, ltb-true}
 use lib.Dec.{eqb}
 use lib.ListN.{length, getD}
 use Rattle.basics.specs.Below.{every, some, first, count, sum, setOf, listOf}
-use Rattle.order.specs.Mask.{member, includes, size, nth, belowMask}
+use Rattle.masks.specs.Mask.{member, includes, size, nth, belowMask}
 use Rattle.order.specs.Order.{isClassIn, flowsIn, strictlyIn, rowFits, rowsFit, antisymmetricAt, antisymmetric, transitiveAt, transitive, hasLeast, leastAt, leastIn, betweenIn, coversIn, coverSet}
 use Rattle.turns.specs.Turns.{minimumsSum, turnsSound, minimumsAbove, capIn}
 use Rattle.timing.specs.Timing.{within, gapsWithin, bankWithin, timingSound}

@@ -8,7 +8,7 @@ use borrow.Author.Needs.{needs}
 use lib.Dec.{leb}
 use lib.ListN.{getD}
 use Rattle.basics.proofs.Loops.{Passed, passed-none, passed-all, goes-on, stops}
-use Rattle.order.specs.Mask.{size}
+use Rattle.masks.specs.Mask.{size}
 use Rattle.state.proofs.turns_in_range.Statement.{statement}
 use Rattle.state.proofs.turns_in_range.Tie as tie
 

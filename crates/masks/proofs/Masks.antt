@@ -12,7 +12,7 @@ use lib.Dec.{eqb, ltb, lit<}
 use lib.Bits.{bitOr, bitXor, or-shr, or-mod, or-lt, xor-shr, xor-mod, xor-lt}
 use lib.Pow.{pow-pos, pow-mono, pow-lt, field, mod-mod-pow, low, high, shr-lt, shl-exact}
 use Rattle.basics.specs.Below.{sum, setOf}
-use Rattle.order.specs.Mask.{member, includes, difference, classMask, belowMask}
+use Rattle.masks.specs.Mask.{member, includes, difference, classMask, belowMask}
 use Rattle.basics.proofs.Truth.{either, not-both, same-truth, implies, implication, or-right, or-implied}
 use Rattle.basics.proofs.Below.{lt-or-ge, at-or-below, every-at, every-all}
 

@@ -1,11 +1,11 @@
--- `order::mask::has` meets its contract: the test is the definition itself, and past 15 a 16-bit number has no bits.
+-- `masks::has` meets its contract: the test is the definition itself, and past 15 a 16-bit number has no bits.
 -- Assumes nothing.
 use mathlib.Core.Path.{refl, sym}
 use borrow.Author.Needs.{needs}
-use Rattle.order.specs.Mask.{member}
-use Rattle.order.proofs.Masks.{member-over}
-use Rattle.order.proofs.mask.has.Statement.{statement}
-use Rattle.order.proofs.mask.has.Tie as tie
+use Rattle.masks.specs.Mask.{member}
+use Rattle.masks.proofs.Masks.{member-over}
+use Rattle.masks.proofs.has.Statement.{statement}
+use Rattle.masks.proofs.has.Tie as tie
 
 cast-result : tie.Need-cast-result
 cast-result c = search needs

@@ -11,7 +11,7 @@ use native.Mathlib.Omega.{arith}
 use borrow.Author.Tests.{eq-eqb, eqb-true}
 use lib.Dec.{eqb}
 use Rattle.basics.specs.Below.{count}
-use Rattle.order.specs.Mask.{member, size, nth}
+use Rattle.masks.specs.Mask.{member, size, nth}
 use Rattle.basics.proofs.Truth.{either, and-left, and-right, and-both}
 use Rattle.basics.proofs.Below.{lt-or-ge, count-yes, count-no, count-none, count-mono, some-at, first-found}
 

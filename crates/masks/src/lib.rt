@@ -1,7 +1,7 @@
 // Masks: a set of classes as a 16-bit number, bit i standing for class i, as in a row of the order.
 
 ghost use mathlib.Core.Path.{_≡_};
-ghost use Rattle.order.specs.Mask.{member, includes, difference, size, nth, classMask, belowMask};
+ghost use Rattle.masks.specs.Mask.{member, includes, difference, size, nth, classMask, belowMask};
 
 // The mask of a class: its bit alone. There are classes 0 to 15; what a greater number gives is open in document 01, and it is the empty set here.
 pub fn class_mask(class: usize) -> u16
@@ -33,14 +33,14 @@ pub fn has(set: u16, class: usize) -> bool
 }
 
 // Whether every class of `part` is in the set.
-pub(crate) fn includes(set: u16, part: u16) -> bool
+pub fn includes(set: u16, part: u16) -> bool
     ensures { λ r. ⌜ r ≡ includes set part ⌝ }
 {
     (set | part) == set
 }
 
 // The classes of the set that are not in `part`.
-pub(crate) fn without(set: u16, part: u16) -> u16
+pub fn without(set: u16, part: u16) -> u16
     ensures { λ r. ⌜ r ≡ difference set part ⌝ }
 {
     (set | part) ^ part

@@ -1,12 +1,12 @@
--- `order::mask::class_mask` meets its contract: the shift is the power of two, and each branch is the side of `classMask` that its test picks.
+-- `masks::class_mask` meets its contract: the shift is the power of two, and each branch is the side of `classMask` that its test picks.
 -- Assumes nothing.
 use mathlib.Core.Path.{_∙_}
 use borrow.Author.Needs.{needs}
 use borrow.Author.Tests.{lt-ltb, le-ltb}
-use Rattle.order.specs.Mask.{classMask}
-use Rattle.order.proofs.Masks.{one-shl}
-use Rattle.order.proofs.mask.class_mask.Statement.{statement}
-use Rattle.order.proofs.mask.class_mask.Tie as tie
+use Rattle.masks.specs.Mask.{classMask}
+use Rattle.masks.proofs.Masks.{one-shl}
+use Rattle.masks.proofs.class_mask.Statement.{statement}
+use Rattle.masks.proofs.class_mask.Tie as tie
 
 cast-result : tie.Need-cast-result
 cast-result c = search needs

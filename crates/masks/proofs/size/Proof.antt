@@ -1,4 +1,4 @@
--- `order::mask::size` meets its contract. The invariant: the count is that of the members below `i`.
+-- `masks::size` meets its contract. The invariant: the count is that of the members below `i`.
 -- Assumes nothing.
 use mathlib.Core.Path.{_≡_, sym, ap, _∙_}
 use mathlib.Core.Logic.{⊎-elim}
@@ -6,10 +6,10 @@ use Prim.Native.Nat.{ℕ, _-_, _≤_}
 use native.Mathlib.Omega.{arith}
 use borrow.Author.Needs.{needs}
 use Rattle.basics.specs.Below.{count}
-use Rattle.order.specs.Mask.{member, size}
+use Rattle.masks.specs.Mask.{member, size}
 use Rattle.basics.proofs.Below.{count-none, count-yes, count-no, count-le}
-use Rattle.order.proofs.mask.size.Statement.{statement}
-use Rattle.order.proofs.mask.size.Tie as tie
+use Rattle.masks.proofs.size.Statement.{statement}
+use Rattle.masks.proofs.size.Tie as tie
 
 abbrev Inv-loop : tie.InvT-loop
 Inv-loop set n₀ i₀ n i = (n ≡ count i (member set)) × (i ≤ 16)

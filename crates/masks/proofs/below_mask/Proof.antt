@@ -1,14 +1,14 @@
--- `order::mask::below_mask` meets its contract: below 16 the smaller of the number and 16 is the number, and from there on 16.
+-- `masks::below_mask` meets its contract: below 16 the smaller of the number and 16 is the number, and from there on 16.
 -- Assumes nothing.
 use mathlib.Core.Path.{_≡_, _∙_, ap}
 use Prim.Native.Nat.{ℕ, _-_, _^_, min}
 use native.Mathlib.Omega.{arith}
 use borrow.Author.Needs.{needs}
 use lib.Pow.{pow-pos}
-use Rattle.order.specs.Mask.{belowMask}
-use Rattle.order.proofs.Masks.{one-shl}
-use Rattle.order.proofs.mask.below_mask.Statement.{statement}
-use Rattle.order.proofs.mask.below_mask.Tie as tie
+use Rattle.masks.specs.Mask.{belowMask}
+use Rattle.masks.proofs.Masks.{one-shl}
+use Rattle.masks.proofs.below_mask.Statement.{statement}
+use Rattle.masks.proofs.below_mask.Tie as tie
 
 cast-result : tie.Need-cast-result
 cast-result c = search needs

@@ -1,4 +1,4 @@
--- `order::mask::nth` meets its contract. The invariant: the count is that of the members below `i`, and none of them has the number.
+-- `masks::nth` meets its contract. The invariant: the count is that of the members below `i`, and none of them has the number.
 -- Assumes nothing.
 use mathlib.Core.Path.{_≡_, sym, _∙_}
 use mathlib.Core.Logic.{⊎-elim}
@@ -8,13 +8,13 @@ use native.Mathlib.Omega.{arith}
 use borrow.Author.Needs.{needs}
 use lib.Dec.{eqb}
 use Rattle.basics.specs.Below.{count}
-use Rattle.order.specs.Mask.{member, nth}
+use Rattle.masks.specs.Mask.{member, nth}
 use borrow.Author.Tests.{eq-eqb, ne-eqb}
 use Rattle.basics.proofs.Truth.{and-both, and-fails-left, and-fails-right}
 use Rattle.basics.proofs.Below.{count-none, count-yes, count-no, count-le}
 use Rattle.basics.proofs.Loops.{Missed, missed-none, missed-more, missed-all, found-at}
-use Rattle.order.proofs.mask.nth.Statement.{statement}
-use Rattle.order.proofs.mask.nth.Tie as tie
+use Rattle.masks.proofs.nth.Statement.{statement}
+use Rattle.masks.proofs.nth.Tie as tie
 
 abbrev isNth : ℕ → ℕ → ℕ → Bool
 isNth set number j = member set j && eqb (count (j + 1) (member set)) number

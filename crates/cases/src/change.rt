@@ -4,9 +4,9 @@
 use super::script;
 use super::script::List;
 use file::Reading;
+use flight::Flight;
 use policy::Policy;
-use state::Flight;
-use state::Queues;
+use queues::Queues;
 use state::State;
 use state::Turns;
 

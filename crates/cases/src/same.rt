@@ -1,7 +1,7 @@
 // Whether two states are the same, number by number: a refused call hands back the state that it was given.
 
-use state::Flight;
-use state::Queues;
+use flight::Flight;
+use queues::Queues;
 use state::State;
 use state::Turns;
 

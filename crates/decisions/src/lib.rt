@@ -6,8 +6,7 @@ ghost use Prim.Native.Nat.{_-_, _%_};
 ghost use Rattle.rules.specs.Traversal.{moved, takesBy};
 ghost use Rattle.rules.specs.Wire.{gapMet, gapsMetBy};
 ghost use Rattle.rules.specs.Step.{turnWord};
-use policy::Timing;
-use state::stored;
+use timing::Timing;
 
 // The round-robin pointer, moved on by 1: from the number of covers back to 1, and 0 where there are none.
 pub fn moved(covers: u16, pointer: usize) -> usize
@@ -16,7 +15,7 @@ pub fn moved(covers: u16, pointer: usize) -> usize
     if covers == 0 {
         return 0;
     }
-    if pointer < order::mask::size(covers) {
+    if pointer < masks::size(covers) {
         pointer + 1
     } else {
         1
@@ -54,7 +53,7 @@ pub fn turn_word(owner: usize, elided: bool) -> u32
 pub fn gap_met(last: u32, gap: u32, cycle: u32) -> bool
     ensures { λ r. ⌜ r ≡ gapMet last gap cycle ⌝ }
 {
-    (last == 0) | (stored::activate_next(last) as u64 + gap as u64 <= cycle as u64 + 1)
+    (last == 0) | (flight::activate_next(last) as u64 + gap as u64 <= cycle as u64 + 1)
 }
 
 // All gaps are met: from the last activate of all, by the two kinds, and from that of the bank, by its kind. A kind is 0 or 1; another
@@ -62,7 +61,7 @@ pub fn gap_met(last: u32, gap: u32, cycle: u32) -> bool
 pub fn gaps_met(timing: Timing, last: u32, of_bank: u32, kind: u32, cycle: u32) -> bool
     ensures { λ r. ⌜ r ≡ gapsMetBy timing last «of_bank» (kind % 2) cycle ⌝ }
 {
-    let after = (2 * stored::activate_kind(last) + kind % 2) as usize;
-    let same = stored::activate_kind(of_bank) as usize;
+    let after = (2 * flight::activate_kind(last) + kind % 2) as usize;
+    let same = flight::activate_kind(of_bank) as usize;
     gap_met(last, timing.gaps[after], cycle) & gap_met(of_bank, timing.bank[same], cycle)
 }

@@ -11,12 +11,12 @@ use borrow.Author.Tests.{eq-eqb, ne-eqb, eqb-true, eqb-false, le-leb, lt-leb}
 use lib.Dec.{eqb}
 use lib.ListN.{length, drop}
 use Rattle.basics.specs.Below.{setOf}
-use Rattle.order.specs.Mask.{member}
+use Rattle.masks.specs.Mask.{member}
 use Rattle.policy.specs.Policy.{flows, inRange, isClass}
 use Rattle.policy.specs.declared.Policy.{Policy}
 use Rattle.basics.proofs.Truth.{either, false-unless, or-left, or-right}
 use Rattle.basics.proofs.Below.{lt-or-ge}
-use Rattle.order.proofs.Masks.{member-over, setOf-below, member-setOf}
+use Rattle.masks.proofs.Masks.{member-over, setOf-below, member-setOf}
 use Rattle.policy.proofs.Laws.{policy-laws}
 use Rattle.extract.specs.Seen.{seenBy, staying}
 use Rattle.extract.specs.Extract.{extractOf, keptFor, extractStatus, extract, outAfter}

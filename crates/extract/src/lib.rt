@@ -7,11 +7,10 @@ ghost use Prim.Native.Nat.{_+_, _*_, _≤_};
 ghost use lib.ListN.{length, drop};
 ghost use lib.Seq.{sets};
 ghost use Rattle.basics.specs.Below.{setOf};
-ghost use Rattle.order.specs.Mask.{member};
+ghost use Rattle.masks.specs.Mask.{member};
 ghost use Rattle.requests.specs.Trace.{callOf};
 ghost use Rattle.extract.specs.Seen.{seenBy, stays, staying};
 ghost use Rattle.extract.specs.Extract.{hideWord, hideTurn, lineSeen, lineSeenAt, extractOf, extract, outAfter};
-use order::mask;
 use policy::Policy;
 use requests::Call;
 use requests::words;
@@ -30,7 +29,7 @@ fn seen_by(p: Policy, class: usize) -> u16
     let mut c = 0;
     while c < 16 {
         if policy::flows(p, c, class) {
-            seen += mask::class_mask(c);
+            seen += masks::class_mask(c);
         }
         c += 1;
     }
@@ -44,7 +43,7 @@ fn stays(seen: u16, word: u32) -> bool
     let call = requests::call_of(word);
     match call {
         Call::Tick => true,
-        Call::Offer(r) => mask::has(seen, r.class as usize),
+        Call::Offer(r) => masks::has(seen, r.class as usize),
         Call::Malformed => false,
     }
 }
@@ -53,7 +52,7 @@ fn stays(seen: u16, word: u32) -> bool
 fn hide_word(seen: u16, word: u32) -> u32
     ensures { λ r. ⌜ r ≡ hideWord (member seen) word ⌝ }
 {
-    if mask::has(seen, words::class_of(word) as usize) {
+    if masks::has(seen, words::class_of(word) as usize) {
         word
     } else {
         0
@@ -71,7 +70,7 @@ fn hide_turn(seen: u16, turn: u32) -> u32
     if named == 0 {
         return 512;
     }
-    if mask::has(seen, named - 1) {
+    if masks::has(seen, named - 1) {
         turn
     } else {
         512

@@ -12,10 +12,10 @@ use borrow.Author.Tests.{lt-ltb, le-ltb, le-leb, leb-true, eq-eqb, eqb-true}
 use lib.Dec.{leb, ltb, eqb, lit<, lit≤}
 use lib.ListN.{length, getD, List·getD-eq-default}
 use Rattle.basics.specs.Below.{sum, listOf}
-use Rattle.order.specs.Mask.{member}
+use Rattle.masks.specs.Mask.{member}
 use Rattle.order.specs.Order.{isClassIn, flowsIn, rowsFit, antisymmetric, transitive, hasLeast, coverSet}
-use Rattle.policy.specs.Turns.{minimumsSum, turnsSound, capIn}
-use Rattle.policy.specs.Timing.{within, gapsWithin, bankWithin, timingSound}
+use Rattle.turns.specs.Turns.{minimumsSum, turnsSound, capIn}
+use Rattle.timing.specs.Timing.{within, gapsWithin, bankWithin, timingSound}
 use Rattle.policy.specs.Policy.{isClass, coversOf, cap, firstFailing, policyTests, refusal, shaped, storedFits, allStoredFits, inRange}
 use Rattle.file.specs.File.{byte, word, kind, start, bodySize, kindsFit, bodiesAbut, contentsFit, classCount, lengthsFit, rowAt, epochOf, minimumAt, timingOf, held, fileTests, status, refusedWith, readFile}
 use Rattle.policy.specs.Laws.{TimingLaws}

@@ -6,10 +6,10 @@ use lib.Dec.{ltb, eqb}
 use lib.ListN.{length, getD, replicate}
 use Rattle.basics.specs.Below.{listOf}
 use Rattle.order.specs.Order.{coverSet}
-use Rattle.policy.specs.Turns.{capIn}
-use Rattle.policy.specs.Timing.{within}
+use Rattle.turns.specs.Turns.{capIn}
+use Rattle.timing.specs.Timing.{within}
 use Rattle.policy.specs.Policy.{firstFailing, policyTests}
-use Rattle.policy.specs.declared.Timing.{Timing}
+use Rattle.timing.specs.declared.Timing.{Timing}
 use Rattle.policy.specs.declared.Policy.{Policy}
 use Rattle.file.specs.declared.Reading.{Reading}
 

@@ -8,9 +8,9 @@ use Prim.Native.Nat.{ℕ, suc, _+_, _*_, _≤_, _<_}
 use lib.Dec.{ltb}
 use lib.ListN.{length}
 use Rattle.basics.specs.Below.{sum, listOf}
-use Rattle.order.specs.Mask.{member}
+use Rattle.masks.specs.Mask.{member}
 use Rattle.order.specs.Order.{isClassIn, coverSet}
-use Rattle.policy.specs.Turns.{capIn}
+use Rattle.turns.specs.Turns.{capIn}
 use Rattle.policy.specs.Policy.{inRange}
 use Rattle.file.specs.File.{byte, word, readFile}
 use Rattle.order.specs.Laws.{Reflexive, Antisymmetric, Transitive, Least}

@@ -5,10 +5,9 @@ ghost use Prim.Native.Nat.{_<_};
 ghost use Rattle.file.specs.File.{byte, word, start, bodySize, kindsFit, bodiesAbut, contentsFit, lengthsFit, rowAt, minimumAt, timingOf, held, noPolicy, refusedWith, readFile};
 ghost use Rattle.basics.specs.Below.{listOf};
 ghost use Rattle.order.specs.Order.{coverSet};
-ghost use Rattle.policy.specs.Turns.{capIn};
+ghost use Rattle.turns.specs.Turns.{capIn};
 use policy::Policy;
-use policy::Timing;
-use policy::turns;
+use timing::Timing;
 
 // The answer of reading a policy file: 0 and the policy, or the number that refuses the file and the policy of no classes, all zeros.
 pub struct Reading {

@@ -9,12 +9,12 @@ use Prim.Native.Nat.{ℕ, _+_, _*_, _≤_, _<_}
 use native.Mathlib.Omega.{arith}
 use lib.ListN.{length, getD, set}
 use Rattle.policy.specs.Laws.{TimingLaws}
-use Rattle.policy.specs.declared.Timing.{Timing}
+use Rattle.timing.specs.declared.Timing.{Timing}
 use Rattle.basics.proofs.Stores.{stored-at, stored-in-both}
 use Rattle.requests.specs.Word.{kindOf, bankOf}
 use Rattle.rules.specs.Wire.{gapMet, gapsMetBy, gapsMet}
-use Rattle.state.specs.Stored.{activateKind}
-use Rattle.state.specs.declared.Flight.{Flight}
+use Rattle.flight.specs.Flight.{activateKind}
+use Rattle.flight.specs.declared.Flight.{Flight}
 use Rattle.rules.proofs.Wire.{gap-shift, kind-small}
 use Rattle.extract.specs.Extract.{hideWord}
 use Rattle.noninterference.proofs.Low.{PendingAgree, LastAgree, LastsAgree}

@@ -10,10 +10,10 @@ use lib.ListN.{getD}
 use Rattle.policy.specs.Policy.{flows}
 use Rattle.policy.specs.declared.Policy.{Policy}
 use Rattle.requests.specs.Sizes.{bankCount}
-use Rattle.state.specs.Stored.{waiting}
+use Rattle.queues.specs.Waiting.{waiting}
 use Rattle.rules.specs.Wire.{gapMet}
-use Rattle.state.specs.declared.Flight.{Flight}
-use Rattle.state.specs.declared.Queues.{Queues}
+use Rattle.flight.specs.declared.Flight.{Flight}
+use Rattle.queues.specs.declared.Queues.{Queues}
 use Rattle.state.specs.declared.Turns.{Turns}
 use Rattle.extract.specs.Extract.{hideWord}
 

@@ -12,10 +12,10 @@ use Rattle.basics.proofs.Truth.{either, not-both, on-true, on-false}
 use Rattle.basics.proofs.Below.{length-listOf}
 use Rattle.basics.proofs.Stores.{same-or-other}
 use Rattle.requests.specs.Word.{wordOf, classFits, bankAndKindFit}
-use Rattle.state.specs.Stored.{lengthOf, waitingAt, waiting}
+use Rattle.queues.specs.Waiting.{lengthOf, waitingAt, waiting}
 use Rattle.rules.specs.Queue.{enqueue, offerStatus, queuesAfter}
 use Rattle.requests.specs.declared.Request.{Request}
-use Rattle.state.specs.declared.Queues.{Queues}
+use Rattle.queues.specs.declared.Queues.{Queues}
 use Rattle.rules.proofs.Queue.{enqueue-end, enqueue-beside}
 use Rattle.rules.proofs.Range.{QueuesRange}
 use Rattle.rules.proofs.CallsKept.{taken, below-sixteen, room}

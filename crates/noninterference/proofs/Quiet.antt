@@ -12,7 +12,7 @@ use lib.Dec.{eqb}
 use lib.ListN.{length, set}
 use Rattle.basics.proofs.Truth.{either, not-both, on-either}
 use Rattle.requests.specs.Word.{classOf, columnNumber, commandNumber}
-use Rattle.state.specs.Stored.{dueAt, sentAt}
+use Rattle.flight.specs.Flight.{dueAt, sentAt}
 use Rattle.rules.specs.Wire.{activated}
 use Rattle.rules.specs.Step.{Bus, dueColumn, going, canActivate, drive}
 use Rattle.rules.specs.History.{Each}

@@ -13,13 +13,14 @@ use lib.ListN.{getD, set}
 use Rattle.basics.proofs.Truth.{either, and-fails-left, and-fails-right}
 use Rattle.basics.proofs.Stores.{same-or-other, stored-in-both}
 use Rattle.requests.specs.Word.{kindOf, bankOf, requestOf, soundWord}
-use Rattle.state.specs.Stored.{lengthOf, waiting, activateAt, sentAt}
+use Rattle.queues.specs.Waiting.{lengthOf, waiting}
+use Rattle.flight.specs.Flight.{activateAt, sentAt}
 use Rattle.rules.specs.Queue.{dequeue}
 use Rattle.rules.specs.Wire.{gapsMet, offsetAllows, activated}
 use Rattle.rules.specs.Step.{Driven, Bus, dueColumn, goesAt, going, canActivate, columnSent, requestSent, nothingSent, drive}
 use Rattle.requests.specs.declared.Wires.the-variants.{Activate, Column}
-use Rattle.state.specs.declared.Queues.{Queues}
-use Rattle.state.specs.declared.Flight.{Flight}
+use Rattle.queues.specs.declared.Queues.{Queues}
+use Rattle.flight.specs.declared.Flight.{Flight}
 use Rattle.rules.proofs.Range.{sound-bank, sound-kind, BusRange, goes-waits, going-sound}
 use Rattle.rules.proofs.Step.{drive-column, drive-nothing, drive-activate}
 use Rattle.rules.proofs.Queue.{dequeue-first, dequeue-beside}

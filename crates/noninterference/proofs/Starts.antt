@@ -10,12 +10,12 @@ use Rattle.policy.specs.Policy.{inRange as policyInRange}
 use Rattle.policy.specs.declared.Policy.{Policy}
 use Rattle.basics.proofs.Truth.{either, not-both, false-unless, on-true, on-false}
 use Rattle.policy.proofs.Laws.{policy-laws}
-use Rattle.state.specs.Stored.{lengthOf}
+use Rattle.queues.specs.Waiting.{lengthOf}
 use Rattle.rules.specs.Wire.{gapMet}
 use Rattle.rules.specs.Step.{turnStarts, turnNumber, startTurn, turnsAt, TurnStart}
 use Rattle.rules.specs.History.{turnBefore, untilTurn, Activates, Held}
 use Rattle.state.specs.declared.Turns.{Turns}
-use Rattle.state.specs.declared.Flight.{Flight}
+use Rattle.flight.specs.declared.Flight.{Flight}
 use Rattle.state.specs.declared.State.{State}
 use Rattle.rules.proofs.Lookahead.{elision}
 use Rattle.rules.proofs.Range.{ranged}

@@ -14,7 +14,7 @@ use Rattle.policy.specs.declared.Policy.{Policy}
 use Rattle.basics.proofs.Truth.{not-both, and-fails-right}
 use Rattle.policy.proofs.Laws.{policy-laws}
 use Rattle.requests.specs.Word.{classOf, commandNumber}
-use Rattle.state.specs.Stored.{dueAt, sentAt}
+use Rattle.flight.specs.Flight.{dueAt, sentAt}
 use Rattle.rules.specs.Wire.{activated}
 use Rattle.rules.specs.Step.{turnStarts, turnWord, TurnStart, turnsAt, Driven, Bus, going, drive, answered}
 use Rattle.rules.specs.Call.{afterTick}

@@ -8,7 +8,7 @@ use Prim.Native.Nat.{ℕ, suc, _+_, _-_, _%_, _<_}
 use lib.Dec.{eqb}
 use lib.ListN.{length, getD, set, length-set}
 use lib.Seq.{getD-set-other}
-use Rattle.order.specs.Mask.{nth}
+use Rattle.masks.specs.Mask.{nth}
 use Rattle.order.specs.Order.{flowsIn}
 use Rattle.policy.specs.Policy.{flows, inRange}
 use Rattle.policy.specs.declared.Policy.{Policy}

@@ -10,7 +10,7 @@ use Rattle.policy.specs.Policy.{isClass, flows}
 use Rattle.file.specs.File.{readFile}
 use Rattle.file.specs.Taken.{Bytes}
 use Rattle.policy.specs.declared.Policy.{Policy}
-use Rattle.state.specs.Stored.{waiting}
+use Rattle.queues.specs.Waiting.{waiting}
 use Rattle.state.specs.Fresh.{fresh}
 use Rattle.requests.specs.Trace.{callOf}
 use Rattle.rules.specs.Calls.{stateAfter, logOf}

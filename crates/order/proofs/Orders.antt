@@ -12,12 +12,12 @@ use borrow.Author.Tests.{lt-ltb, ltb-true, eq-eqb, ne-eqb, eqb-true}
 use lib.Dec.{eqb}
 use lib.ListN.{getD}
 use Rattle.basics.specs.Below.{some}
-use Rattle.order.specs.Mask.{member, includes, difference, size, classMask}
+use Rattle.masks.specs.Mask.{member, includes, difference, size, classMask}
 use Rattle.order.specs.Order.{isClassIn, classSet, flowsIn, strictlyIn, rowFits, rowsFit, antisymmetricAt, antisymmetric, transitiveAt, transitive, leastAt, hasLeast, aboveSet, aboveSome, betweenIn, coversIn, coverSet, aboveIn}
 use Rattle.order.specs.Laws.{Reflexive, Antisymmetric, Transitive, Least, SmallClasses}
 use Rattle.basics.proofs.Truth.{either, false-unless, true-unless, not-both, and-left, and-right, and-both, implies, implication, not-true, not-false, and-comm}
 use Rattle.basics.proofs.Below.{lt-or-ge, every-at, every-all, some-at, some-found, some-same, count-same, setOf-same}
-use Rattle.order.proofs.Masks.{member-zero, member-over, member-belowMask, includes-at, includes-all, member-setOf, member-classMask}
+use Rattle.masks.proofs.Masks.{member-zero, member-over, member-belowMask, includes-at, includes-all, member-setOf, member-classMask}
 
 -- ---- classes
 

@@ -6,7 +6,7 @@ use Prim.Native.Nat.{ℕ}
 use lib.Dec.{ltb, eqb}
 use lib.ListN.{getD}
 use Rattle.basics.specs.Below.{every, some, first, count, setOf}
-use Rattle.order.specs.Mask.{member, belowMask, includes}
+use Rattle.masks.specs.Mask.{member, belowMask, includes}
 
 -- "n (1 to 16)": a class is a number below the class count. What a policy stores of its classes is n, and this alone says which numbers are among them.
 unfoldable pub isClassIn : ℕ → ℕ → Bool

@@ -5,8 +5,6 @@ ghost use mathlib.Core.Path.{_≡_};
 ghost use lib.ListN.{getD};
 ghost use Rattle.order.specs.Order.{isClassIn, classSet, flowsIn, strictlyIn, rowFits, rowsFit, antisymmetricAt, antisymmetric, transitiveAt, transitive, leastAt, leastIn, hasLeast, aboveSet, aboveSome, coverSet, aboveIn};
 
-pub mod mask;
-
 // A class's row. What a number above 15 has is open in document 01: 0 here.
 pub fn row_of(rows: [u16; 16], class: usize) -> u16
     ensures { λ r. ⌜ r ≡ getD rows class 0 ⌝ }
@@ -18,7 +16,7 @@ pub fn row_of(rows: [u16; 16], class: usize) -> u16
 pub fn flows_in(rows: [u16; 16], i: usize, j: usize) -> bool
     ensures { λ r. ⌜ r ≡ flowsIn rows i j ⌝ }
 {
-    mask::has(row_of(rows, i), j)
+    masks::has(row_of(rows, i), j)
 }
 
 // Whether class i is strictly below class j. A number above 15, of which document 01 says nothing, is below and above none.
@@ -39,14 +37,14 @@ pub fn is_class(classes: usize, class: usize) -> bool
 fn class_set(classes: usize) -> u16
     ensures { λ r. ⌜ r ≡ classSet classes ⌝ }
 {
-    mask::below_mask(classes)
+    masks::below_mask(classes)
 }
 
 fn row_fits(classes: usize, class: usize, row: u16) -> bool
     ensures { λ r. ⌜ r ≡ rowFits classes class row ⌝ }
 {
     if is_class(classes, class) {
-        mask::includes(class_set(classes), row) & mask::has(row, class)
+        masks::includes(class_set(classes), row) & masks::has(row, class)
     } else {
         row == 0
     }
@@ -99,7 +97,7 @@ fn transitive_at(rows: [u16; 16], i: usize) -> bool
     let row = row_of(rows, i);
     let mut j = 0;
     while j < 16 {
-        if mask::has(row, j) & !mask::includes(row, rows[j]) {
+        if masks::has(row, j) & !masks::includes(row, rows[j]) {
             return false;
         }
         j += 1;
@@ -124,7 +122,7 @@ pub fn is_transitive(rows: [u16; 16]) -> bool
 fn least_at(classes: usize, rows: [u16; 16], i: usize) -> bool
     ensures { λ r. ⌜ r ≡ leastAt classes rows i ⌝ }
 {
-    is_class(classes, i) & mask::includes(row_of(rows, i), class_set(classes))
+    is_class(classes, i) & masks::includes(row_of(rows, i), class_set(classes))
 }
 
 // The least class. Where there is none, which document 01 leaves open, 16: no class.
@@ -152,7 +150,7 @@ pub fn has_least(classes: usize, rows: [u16; 16]) -> bool
 fn above_set(rows: [u16; 16], class: usize) -> u16
     ensures { λ r. ⌜ r ≡ aboveSet rows class ⌝ }
 {
-    mask::without(row_of(rows, class), mask::class_mask(class))
+    masks::without(row_of(rows, class), masks::class_mask(class))
 }
 
 // The classes strictly above some class of the set.
@@ -162,7 +160,7 @@ fn above_some(rows: [u16; 16], set: u16) -> u16
     let mut found = 0u16;
     let mut k = 0;
     while k < 16 {
-        if mask::has(set, k) {
+        if masks::has(set, k) {
             found = found | above_set(rows, k);
         }
         k += 1;
@@ -175,12 +173,12 @@ pub fn cover_set(rows: [u16; 16], class: usize) -> u16
     ensures { λ r. ⌜ r ≡ coverSet rows class ⌝ }
 {
     let above = above_set(rows, class);
-    mask::without(above, above_some(rows, above))
+    masks::without(above, above_some(rows, above))
 }
 
 // How many classes are strictly above a class. For a number above 15, which document 01 leaves open, 0.
 pub fn above_in(rows: [u16; 16], class: usize) -> usize
     ensures { λ r. ⌜ r ≡ aboveIn rows class ⌝ }
 {
-    mask::size(above_set(rows, class))
+    masks::size(above_set(rows, class))
 }

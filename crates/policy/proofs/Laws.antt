@@ -11,20 +11,20 @@ use borrow.Author.Tests.{ltb-true, leb-true, eqb-true}
 use lib.Dec.{ltb, leb, eqb, lit<}
 use lib.ListN.{length, getD, List·getD-eq-default}
 use Rattle.basics.specs.Below.{every}
-use Rattle.order.specs.Mask.{member, size}
+use Rattle.masks.specs.Mask.{member, size}
 use Rattle.order.specs.Order.{strictlyIn, rowFits, rowsFit, antisymmetric, transitive, hasLeast, leastAt, leastIn, betweenIn, coversIn, coverSet, aboveIn}
-use Rattle.policy.specs.Turns.{turnsSound, minimumsSum, minimumsAbove, capIn}
-use Rattle.policy.specs.Timing.{within, gapsWithin, bankWithin, timingSound}
+use Rattle.turns.specs.Turns.{turnsSound, minimumsSum, minimumsAbove, capIn}
+use Rattle.timing.specs.Timing.{within, gapsWithin, bankWithin, timingSound}
 use Rattle.policy.specs.Policy.{flows, strictly, least, above, coversOf, coverCount, cover, cap, isClass, shaped, storedFits, allStoredFits, policyTests, firstFailing, refusal, inRange}
 use Rattle.policy.specs.Laws.{OrderLaws, LeastLaws, Covering, CoverLaws, AboveLaws, CapLaws, TimingLaws, PolicyLaws}
 use Rattle.order.specs.Laws.{Reflexive, Least}
-use Rattle.policy.specs.declared.Timing.{Timing}
+use Rattle.timing.specs.declared.Timing.{Timing}
 use Rattle.policy.specs.declared.Policy.{Policy}
 use Rattle.basics.proofs.Truth.{either, false-unless, not-both, and-left, and-right, and-both, and-three, and-four, not-true, not-false}
 use Rattle.basics.proofs.Below.{lt-or-ge, every-at, some-at, some-found, first-found, count-few, count-all-fail, count-less, sum-without}
-use Rattle.order.proofs.Masks.{member-zero, member-over, member-setOf, setOf-below}
+use Rattle.masks.proofs.Masks.{member-zero, member-over, member-setOf, setOf-below}
 use Rattle.order.proofs.Orders as orders
-use Rattle.order.proofs.Numbered as numbered
+use Rattle.masks.proofs.Numbered as numbered
 
 -- ---- what the tests are
 

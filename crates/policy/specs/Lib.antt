@@ -1,9 +1,5 @@
 -- The definitions that the contracts of `policy` cite, in reading order. Beside each, the part of document 01 that it carries.
 
--- "The policy file", the turns: epoch length, minimums, caps
-pub mod Turns
--- "The policy file", the timing: ten numbers and their bounds
-pub mod Timing
 -- the policy as a value: what of it is refused, and what is in range
 pub mod Policy
 -- what holds of every policy in range

@@ -5,10 +5,10 @@ use Prim.Native.Nat.{ℕ, suc}
 use lib.Dec.{ltb, eqb}
 use lib.ListN.{length, getD}
 use Rattle.basics.specs.Below.{every}
-use Rattle.order.specs.Mask.{size, nth}
+use Rattle.masks.specs.Mask.{size, nth}
 use Rattle.order.specs.Order.{isClassIn, flowsIn, strictlyIn, rowsFit, antisymmetric, transitive, hasLeast, leastIn, coverSet, aboveIn}
-use Rattle.policy.specs.Turns.{turnsSound, capIn}
-use Rattle.policy.specs.Timing.{timingSound, within}
+use Rattle.turns.specs.Turns.{turnsSound, capIn}
+use Rattle.timing.specs.Timing.{timingSound, within}
 use Rattle.policy.specs.declared.Policy.{Policy}
 
 -- i is a class of this policy

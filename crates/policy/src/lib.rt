@@ -2,23 +2,7 @@
 
 ghost use mathlib.Core.Path.{_≡_};
 ghost use Rattle.policy.specs.Policy.{flows, strictly, least, above, coversOf, coverCount, cover, cap, refusal, storedFits, allStoredFits, inRange};
-
-mod timings;
-pub mod turns;
-
-// The ten numbers of the timing body. A kind is 0 for a read and 1 for a write.
-pub struct Timing {
-    // The lengths of a turn and of its dead time, in cycles.
-    pub turn: u32,
-    pub dead: u32,
-    // The gap between two activates, at twice the earlier's kind plus the later's: read-read, read-write, write-read, write-write.
-    pub gaps: [u32; 4],
-    // The gap between two activates of one bank, at the earlier's kind.
-    pub bank: [u32; 2],
-    // From an activate to its column command, and to its response. Document 01: the column delay and the answer delay.
-    pub column: u32,
-    pub response: u32,
-}
+use timing::Timing;
 
 // A policy. Its arrays have an entry for each of the sixteen class numbers; those at and above the class count are 0.
 pub struct Policy {
@@ -81,14 +65,14 @@ pub fn covers_of(p: Policy, class: usize) -> u16
 pub fn cover_count(p: Policy, class: usize) -> usize
     ensures { λ r. ⌜ r ≡ coverCount p class ⌝ }
 {
-    order::mask::size(covers_of(p, class))
+    masks::size(covers_of(p, class))
 }
 
 // The cover with the given number, from 1 by rising class number. Where there is none, which document 01 leaves open, 16: no class.
 pub fn cover(p: Policy, class: usize, number: usize) -> usize
     ensures { λ r. ⌜ r ≡ cover p class number ⌝ }
 {
-    order::mask::nth(covers_of(p, class), number)
+    masks::nth(covers_of(p, class), number)
 }
 
 // The stored cap of a class. For a number that is no class, which document 01 leaves open, 0 in a policy in range.
@@ -122,7 +106,7 @@ pub fn refusal(p: Policy) -> u32
     if !turns::turns_sound(p.epoch, minimums) {
         return 7;
     }
-    if !timings::timing_sound(timing) {
+    if !timing::timing_sound(timing) {
         return 8;
     }
     0

@@ -21,17 +21,18 @@ use Rattle.basics.proofs.Stores.{same-or-other}
 use Rattle.policy.proofs.Laws.{policy-laws}
 use Rattle.requests.specs.Sizes.{lastCycle}
 use Rattle.requests.specs.Word.{classOf, kindOf, bankOf, requestOf, wordOf, classFits, bankAndKindFit, soundWord, columnNumber, commandNumber, wiresOf}
-use Rattle.state.specs.Stored.{headOf, lengthOf, waitingAt, dueAt, activateAt, sentAt}
+use Rattle.queues.specs.Waiting.{headOf, lengthOf, waitingAt, rightWord}
+use Rattle.flight.specs.Flight.{dueAt, activateAt, sentAt}
 use Rattle.rules.specs.Queue.{enqueue, dequeue, offerStatus, queuesAfter}
 use Rattle.rules.specs.Wire.{activated}
 use Rattle.rules.specs.Step.{turnsAt, Bus, dueColumn, goesAt, going, canActivate, drive, answered}
 use Rattle.state.specs.Fresh.{zeros, emptyQueues, nothingInFlight, stateAtStart, freshState, zeroState, fresh}
-use Rattle.state.specs.Range.{rightWord, inRange}
+use Rattle.state.specs.Range.{inRange}
 use Rattle.rules.specs.Call.{offerOn, offer, busAt, afterTick, tick, silent}
 use Rattle.requests.specs.declared.Request.{Request}
 use Rattle.requests.specs.declared.Wires.the-variants.{Nothing}
-use Rattle.state.specs.declared.Queues.{Queues}
-use Rattle.state.specs.declared.Flight.{Flight}
+use Rattle.queues.specs.declared.Queues.{Queues}
+use Rattle.flight.specs.declared.Flight.{Flight}
 use Rattle.state.specs.declared.State.{State}
 use Rattle.state.specs.declared.Made.{Made}
 use Rattle.state.specs.declared.Offered.{Offered}

@@ -10,10 +10,10 @@ use Rattle.policy.specs.Laws.{TimingLaws}
 use Rattle.basics.proofs.Stores.{stored-at}
 use Rattle.requests.specs.Word.{kindOf, bankOf}
 use Rattle.rules.specs.Wire.{activated}
-use Rattle.state.specs.Stored.{sentAt, activateAt}
+use Rattle.flight.specs.Flight.{sentAt, activateAt}
 use Rattle.rules.specs.History.{Each, Activates}
 use Rattle.rules.specs.Step.{Bus, going, canActivate, drive, answered}
-use Rattle.state.specs.declared.Flight.{Flight}
+use Rattle.flight.specs.declared.Flight.{Flight}
 use Rattle.rules.proofs.Step.{outcome}
 use Rattle.rules.proofs.PendingWords.{Later, each-map, each-next, sent-none, each-sent, each-added, added-none}
 

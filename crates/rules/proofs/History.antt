@@ -15,17 +15,17 @@ use Rattle.basics.proofs.Truth.{either, not-both, and-three, or-cases, on-true,
 use Rattle.policy.proofs.Laws.{policy-laws}
 use Rattle.requests.specs.Sizes.{lastCycle}
 use Rattle.requests.specs.Word.{classOf, kindOf, soundWord}
-use Rattle.state.specs.Stored.{lengthOf}
+use Rattle.queues.specs.Waiting.{lengthOf, rightWord}
 use Rattle.rules.specs.Lookahead.{elides}
 use Rattle.rules.specs.Wire.{gapMet, offsetAllows, gapsMet}
 use Rattle.rules.specs.Step.{turnStarts, turnNumber, TurnStart, ownedBy, startTurn, turnsAt, Bus, goesAt, going, canActivate, drive, answered}
 use Rattle.state.specs.Fresh.{nothingInFlight, stateAtStart, freshState}
-use Rattle.state.specs.Range.{rightWord, inRange}
+use Rattle.state.specs.Range.{inRange}
 use Rattle.rules.specs.Call.{offerOn, busAt, afterTick}
 use Rattle.rules.specs.History.{FromFresh, at-first, after-offer, after-tick, turnBefore, untilTurn, InFlight, Activates, Held}
 use Rattle.requests.specs.declared.Request.{Request}
 use Rattle.state.specs.declared.Turns.{Turns}
-use Rattle.state.specs.declared.Flight.{Flight}
+use Rattle.flight.specs.declared.Flight.{Flight}
 use Rattle.state.specs.declared.State.{State}
 use Rattle.state.specs.declared.Offered.{Offered}
 use Rattle.state.specs.declared.Ticked.{Ticked}

@@ -12,7 +12,7 @@ use borrow.Author.Tests.{eqb-true, eqb-false, eq-eqb, ne-eqb}
 use lib.Dec.{eqb}
 use lib.ListN.{getD}
 use lib.Seq.{getD-set-other}
-use Rattle.order.specs.Mask.{member, nth}
+use Rattle.masks.specs.Mask.{member, nth}
 use Rattle.order.specs.Order.{flowsIn, aboveIn}
 use Rattle.policy.specs.Policy.{isClass, flows, above, coversOf, inRange}
 use Rattle.policy.specs.declared.Policy.{Policy}

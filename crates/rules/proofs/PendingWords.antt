@@ -13,7 +13,7 @@ use lib.Seq.{getD-set-same, getD-set-other}
 use Rattle.basics.proofs.Truth.{either}
 use Rattle.basics.proofs.Stores.{stored-at}
 use Rattle.basics.proofs.Below.{lt-or-ge}
-use Rattle.state.specs.Stored.{dueAt, sentAt}
+use Rattle.flight.specs.Flight.{dueAt, sentAt}
 use Rattle.rules.specs.History.{Each}
 
 -- 32 cycles on is the same place

@@ -11,9 +11,9 @@ use lib.ListN.{length, getD}
 use lib.Seq.{getD-set-same, getD-set-other}
 use Rattle.basics.specs.Below.{listOf}
 use Rattle.basics.proofs.Below.{listOf-same}
-use Rattle.state.specs.Stored.{headOf, lengthOf, place, waitingAt, waiting}
+use Rattle.queues.specs.Waiting.{headOf, lengthOf, place, waitingAt, waiting}
 use Rattle.rules.specs.Queue.{enqueue, dequeue}
-use Rattle.state.specs.declared.Queues.{Queues}
+use Rattle.queues.specs.declared.Queues.{Queues}
 
 -- ---- places
 

@@ -15,23 +15,24 @@ use Rattle.policy.specs.Laws.{TimingLaws}
 use Rattle.order.specs.Laws.{SmallClasses}
 use Rattle.policy.specs.Policy.{isClass, coverCount, cap}
 use Rattle.policy.specs.Policy.{inRange as policyInRange}
-use Rattle.policy.specs.declared.Timing.{Timing}
+use Rattle.timing.specs.declared.Timing.{Timing}
 use Rattle.policy.specs.declared.Policy.{Policy}
 use Rattle.basics.proofs.Truth.{not-both, and-left, and-right, and-three, and-both, or-left, or-right, or-cases}
 use Rattle.basics.proofs.Below.{lt-or-ge, every-at, every-all}
 use Rattle.policy.proofs.Laws.{policy-laws}
 use Rattle.requests.specs.Word.{classOf, kindOf, bankOf, requestOf, isOffer, classFits, bankAndKindFit, soundWord}
-use Rattle.state.specs.Stored.{headOf, lengthOf, place, waitingAt, dueAt}
+use Rattle.queues.specs.Waiting.{headOf, lengthOf, place, waitingAt, rightWord, ringInRange, queueInRange}
+use Rattle.flight.specs.Flight.{dueAt, activateInRange, pendingInRange, flightInRange}
 use Rattle.rules.specs.Wire.{offsetAllows, gapsMet}
-use Rattle.state.specs.Range.{rightWord, ringInRange, queueInRange, turnsInRange, activateInRange, pendingInRange, countsInRange, flightInRange, shaped, stateInRange, inRange}
+use Rattle.state.specs.Range.{turnsInRange, countsInRange, shaped, stateInRange, inRange}
 use Rattle.rules.specs.History.{Each, Activates}
 use Rattle.rules.specs.Ready.{Ready}
 use Rattle.requests.specs.Sizes.{lastCycle}
 use Rattle.rules.specs.Step.{Bus, dueColumn, goesAt, going, canActivate}
 use Rattle.rules.specs.Call.{busAt}
-use Rattle.state.specs.declared.Queues.{Queues}
+use Rattle.queues.specs.declared.Queues.{Queues}
 use Rattle.state.specs.declared.Turns.{Turns}
-use Rattle.state.specs.declared.Flight.{Flight}
+use Rattle.flight.specs.declared.Flight.{Flight}
 use Rattle.state.specs.declared.State.{State}
 use Rattle.rules.proofs.Wire.{Before, before, before-back}
 

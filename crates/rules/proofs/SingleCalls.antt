@@ -21,7 +21,7 @@ use Rattle.state.specs.Range.{inRange}
 use Rattle.rules.specs.Call.{offerOn, offer, tick}
 use Rattle.rules.specs.Calls.{ticked, offered, answerTo}
 use Rattle.requests.specs.declared.Request.{Request}
-use Rattle.state.specs.declared.Queues.{Queues}
+use Rattle.queues.specs.declared.Queues.{Queues}
 use Rattle.state.specs.declared.State.{State}
 use Rattle.state.specs.declared.Offered.{Offered}
 use Rattle.requests.proofs.Word.{class-back, kind-back, bank-back, is-offer, word-back}

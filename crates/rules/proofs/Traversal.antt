@@ -12,14 +12,14 @@ use borrow.Author.Tests.{eq-eqb, ne-eqb, lt-ltb, le-ltb}
 use lib.Dec.{eqb, lit<}
 use lib.ListN.{getD}
 use Rattle.basics.specs.Below.{some}
-use Rattle.order.specs.Mask.{member, size}
+use Rattle.masks.specs.Mask.{member, size}
 use Rattle.order.specs.Order.{aboveIn}
 use Rattle.policy.specs.Policy.{isClass, flows, strictly, above, coversOf, inRange}
 use Rattle.policy.specs.declared.Policy.{Policy}
 use Rattle.basics.proofs.Truth.{either, not-both, or-right, on-true, on-false}
 use Rattle.basics.proofs.Below.{lt-or-ge, some-found, none-at, count-yes, count-mono}
-use Rattle.order.proofs.Masks.{same-members, member-zero, member-small}
-use Rattle.order.proofs.Numbered as numbered
+use Rattle.masks.proofs.Masks.{same-members, member-zero, member-small}
+use Rattle.masks.proofs.Numbered as numbered
 use Rattle.order.proofs.Orders.{apart-strictly, strictly-flows}
 use Rattle.policy.proofs.Laws.{policy-laws}
 use Rattle.rules.specs.Traversal.{firstClass, Candidates, candidates, moved, movedPointer, reachedAt, named, takesBy, takes, Reached, endsAt, tryClass}

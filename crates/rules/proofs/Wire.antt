@@ -10,9 +10,8 @@ use native.Mathlib.Omega.{arith}
 use borrow.Author.Tests.{leb-true, le-leb}
 use lib.Dec.{leb, eqb}
 use Rattle.basics.proofs.Truth.{and-left, and-right, and-both, or-left, or-right, or-cases}
-use Rattle.state.specs.Stored.{activateAt, activateNext, activateKind}
+use Rattle.flight.specs.Flight.{activateAt, activateNext, activateKind, activateInRange}
 use Rattle.rules.specs.Wire.{gapMet}
-use Rattle.state.specs.Range.{activateInRange}
 
 -- one cycle for another, and one gap for another
 pub gap-shift : (last gap other t u : ℕ) → t + other ≤ u + gap → gapMet last gap t ≡ true → gapMet last other u ≡ true

@@ -5,7 +5,7 @@ use lib.Dec.{ltb}
 use Rattle.policy.specs.declared.Policy.{Policy}
 use Rattle.requests.specs.Sizes.{lastCycle}
 use Rattle.rules.specs.Queue.{offerStatus, queuesAfter}
-use Rattle.state.specs.Stored.{dueAt}
+use Rattle.flight.specs.Flight.{dueAt}
 use Rattle.rules.specs.Step.{turnsAt, Bus, drive, answered}
 use Rattle.state.specs.Range.{inRange}
 use Rattle.requests.specs.declared.Request.{Request}

@@ -4,7 +4,7 @@ use mathlib.Core.Bool.{true}
 use mathlib.Core.List.{List}
 use Prim.Native.Nat.{ℕ, _^_, _≤_, _<_}
 use lib.ListN.{getD}
-use Rattle.order.specs.Mask.{member, size}
+use Rattle.masks.specs.Mask.{member, size}
 use Rattle.order.specs.Order.{flowsIn, aboveIn}
 
 pub record Climbs (rows covers : List ℕ) : Type 0 where

@@ -10,14 +10,14 @@ use Rattle.policy.specs.declared.Policy.{Policy}
 use Rattle.requests.specs.Sizes.{bankCount, pendingPlaces}
 use Rattle.requests.specs.Word.{classOf}
 use Rattle.rules.specs.Lookahead.{elides}
-use Rattle.state.specs.Stored.{dueAt}
+use Rattle.flight.specs.Flight.{dueAt}
 use Rattle.rules.specs.Wire.{gapMet}
 use Rattle.rules.specs.Step.{turnStarts, turnNumber}
 use Rattle.state.specs.Fresh.{freshState}
 use Rattle.state.specs.Range.{inRange}
 use Rattle.rules.specs.Call.{offer, tick}
 use Rattle.requests.specs.declared.Request.{Request}
-use Rattle.state.specs.declared.Flight.{Flight}
+use Rattle.flight.specs.declared.Flight.{Flight}
 use Rattle.state.specs.declared.State.{State}
 
 -- a state reached from fresh by calls

@@ -8,7 +8,7 @@ use Rattle.policy.specs.Policy.{isClass, flows}
 use Rattle.policy.specs.declared.Policy.{Policy}
 use Rattle.requests.specs.Sizes.{ringPlaces}
 use Rattle.requests.specs.Word.{isOffer, requestOf, wordOf}
-use Rattle.state.specs.Stored.{lengthOf, waitingAt, waiting}
+use Rattle.queues.specs.Waiting.{lengthOf, waitingAt, waiting}
 use Rattle.rules.specs.Queue.{enqueue, dequeue}
 use Rattle.rules.specs.Traversal.{candidates, tryClass}
 use Rattle.rules.specs.Lookahead.{elides}
@@ -19,7 +19,7 @@ use Rattle.rules.specs.Call.{offer, tick}
 use Rattle.rules.specs.Calls.{ticked, offered, answerTo}
 use Rattle.rules.specs.History.{FromFresh, Held}
 use Rattle.requests.specs.declared.Request.{Request}
-use Rattle.state.specs.declared.Queues.{Queues}
+use Rattle.queues.specs.declared.Queues.{Queues}
 use Rattle.state.specs.declared.State.{State}
 
 -- the traversal ends at a class to which the class where it starts may flow

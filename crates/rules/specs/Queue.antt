@@ -4,11 +4,11 @@ use mathlib.Core.List.{List}
 use Prim.Native.Nat.{ℕ, _+_, _-_, _%_}
 use lib.Dec.{ltb, eqb}
 use lib.ListN.{getD, set}
-use Rattle.state.specs.Stored.{headOf, lengthOf, place}
+use Rattle.queues.specs.Waiting.{headOf, lengthOf, place}
 use Rattle.requests.specs.Sizes.{ringPlaces}
 use Rattle.requests.specs.Word.{classFits, bankAndKindFit, wordOf}
 use Rattle.requests.specs.declared.Request.{Request}
-use Rattle.state.specs.declared.Queues.{Queues}
+use Rattle.queues.specs.declared.Queues.{Queues}
 
 -- "goes to the end of its class's queue as it is"
 unfoldable pub enqueue : Queues → ℕ → ℕ → Queues

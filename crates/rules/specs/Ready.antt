@@ -6,7 +6,7 @@ use Prim.Native.Nat.{ℕ, _<_}
 use Rattle.policy.specs.Laws.{TimingLaws}
 use Rattle.requests.specs.Sizes.{lastCycle, ringPlaces, bankCount}
 use Rattle.requests.specs.Word.{kindOf, bankOf, isOffer}
-use Rattle.state.specs.Stored.{headOf, lengthOf}
+use Rattle.queues.specs.Waiting.{headOf, lengthOf}
 use Rattle.rules.specs.Step.{Bus, dueColumn, goesAt, going}
 
 pub record SoundRequest (w : ℕ) : Type 0 where

@@ -3,19 +3,20 @@ use mathlib.Core.Bool.{Bool, true, false, cond, _&&_}
 use mathlib.Core.List.{List}
 use Prim.Native.Nat.{ℕ, _+_, _/_, _%_}
 use lib.Dec.{ltb, eqb}
-use Rattle.policy.specs.declared.Timing.{Timing}
+use Rattle.timing.specs.declared.Timing.{Timing}
 use Rattle.policy.specs.declared.Policy.{Policy}
 use Rattle.requests.specs.Word.{requestOf}
-use Rattle.state.specs.Stored.{lengthOf, waitingAt, dueAt, sentAt}
+use Rattle.queues.specs.Waiting.{lengthOf, waitingAt}
+use Rattle.flight.specs.Flight.{dueAt, sentAt}
 use Rattle.rules.specs.Queue.{dequeue}
 use Rattle.rules.specs.Traversal.{firstClass, candidates, Reached, tryClass, charge}
 use Rattle.rules.specs.Lookahead.{elides}
 use Rattle.rules.specs.Wire.{gapsMet, offsetAllows, activated}
 use Rattle.requests.specs.declared.Wires.{Wires}
 use Rattle.requests.specs.declared.Wires.the-variants.{Nothing, Activate, Column}
-use Rattle.state.specs.declared.Queues.{Queues}
+use Rattle.queues.specs.declared.Queues.{Queues}
 use Rattle.state.specs.declared.Turns.{Turns}
-use Rattle.state.specs.declared.Flight.{Flight}
+use Rattle.flight.specs.declared.Flight.{Flight}
 
 -- ---- 1
 

@@ -4,7 +4,7 @@ use mathlib.Core.List.{List}
 use Prim.Native.Nat.{ℕ, zero, suc, _+_, _-_}
 use lib.Dec.{ltb, eqb}
 use lib.ListN.{getD, set}
-use Rattle.order.specs.Mask.{size, nth}
+use Rattle.masks.specs.Mask.{size, nth}
 use Rattle.policy.specs.Policy.{least}
 use Rattle.policy.specs.declared.Policy.{Policy}
 

@@ -4,11 +4,11 @@ use mathlib.Core.List.{List}
 use Prim.Native.Nat.{ℕ, _+_, _-_, _*_, _%_}
 use lib.Dec.{leb, ltb, eqb}
 use lib.ListN.{getD, set}
-use Rattle.policy.specs.declared.Timing.{Timing}
+use Rattle.timing.specs.declared.Timing.{Timing}
 use Rattle.requests.specs.Sizes.{pendingPlaces}
-use Rattle.state.specs.Stored.{activateAt, activateNext, activateKind}
+use Rattle.flight.specs.Flight.{activateAt, activateNext, activateKind}
 use Rattle.requests.specs.Word.{kindOf, bankOf}
-use Rattle.state.specs.declared.Flight.{Flight}
+use Rattle.flight.specs.declared.Flight.{Flight}
 
 -- ---- gaps
 

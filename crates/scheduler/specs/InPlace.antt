@@ -5,10 +5,12 @@ use mathlib.Core.List.{List}
 use Prim.Native.Nat.{ℕ, _+_, _%_}
 use Rattle.policy.specs.Policy.{least}
 use Rattle.policy.specs.Policy.{inRange as policyInRange}
-use Rattle.policy.specs.declared.Timing.{Timing}
+use Rattle.timing.specs.declared.Timing.{Timing}
 use Rattle.policy.specs.declared.Policy.{Policy}
 use Rattle.rules.specs.Step.{TurnStart}
-use Rattle.state.specs.Stored.{queuesOf, turnsOf, flightOf}
+use Rattle.queues.specs.Waiting.{queuesOf}
+use Rattle.state.specs.Stored.{turnsOf}
+use Rattle.flight.specs.Flight.{flightOf}
 use Rattle.state.specs.Range.{inRange}
 use Rattle.rules.specs.Calls.{Answer}
 use Rattle.scheduler.specs.declared.turning.Owned.{Owned}

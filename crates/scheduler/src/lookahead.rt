@@ -20,13 +20,13 @@ pub(crate) fn reaches(
 {
     let mut class = from;
     while class != owner {
-        let flows = order::mask::has(rows[class], owner);
+        let flows = masks::has(rows[class], owner);
         let spent = left[class] == 0;
         if !(flows & spent) {
             return false;
         }
         let pointer = decisions::moved(covers[class], pointers[class]);
-        class = order::mask::nth(covers[class], pointer);
+        class = masks::nth(covers[class], pointer);
     }
     true
 }

@@ -9,16 +9,15 @@ ghost use Rattle.rules.specs.Call.{afterTick};
 ghost use Rattle.rules.specs.Calls.{ticked};
 ghost use Rattle.scheduler.specs.InPlace.{momentOf, nextMoment, stateOf, answerOf, Working, Continues};
 use super::turning;
+use flight::Banks;
+use flight::Flight;
+use flight::Pending;
 use policy::Policy;
-use policy::Timing;
-use state::Banks;
-use state::Flight;
-use state::Pending;
-use state::Queues;
-use state::Slots;
+use queues::Queues;
+use queues::Slots;
 use state::State;
 use state::Turns;
-use state::stored;
+use timing::Timing;
 use wires::Instant;
 
 // The numbers of a state that stand in no array, and two that need not be worked out at each tick: the offset in the turn, and the policy's least class.
@@ -162,7 +161,7 @@ pub(crate) fn tick_in_place(
         last: m.last,
     };
     let drove = wires::drive(timing, at, slots, heads, lengths, columns, responses, banks);
-    let response = stored::take_due(m.cycle, responses);
+    let response = flight::take_due(m.cycle, responses);
     let moment = next_moment(timing, m, owned.owner, owned.elided, drove.last);
     Called {
         moment,

@@ -41,6 +41,6 @@ fn ascend(
         ≡ tryClass 16 (candidates (now (covers .entry)) (now (lengths .entry)) (now (left .entry))) (now (pointers .entry))
         (namedNow (now (covers .entry)) (now (pointers .entry)) class) ⌝ }
 {
-    let next = order::mask::nth(covers[class], pointers[class]);
+    let next = masks::nth(covers[class], pointers[class]);
     try_class(rows, covers, lengths, left, pointers, next)
 }

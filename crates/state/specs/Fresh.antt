@@ -6,8 +6,8 @@ use lib.ListN.{replicate}
 use Rattle.policy.specs.Policy.{inRange}
 use Rattle.policy.specs.declared.Policy.{Policy}
 use Rattle.requests.specs.Sizes.{bankCount, pendingPlaces}
-use Rattle.state.specs.declared.Queues.{Queues}
-use Rattle.state.specs.declared.Flight.{Flight}
+use Rattle.queues.specs.declared.Queues.{Queues}
+use Rattle.flight.specs.declared.Flight.{Flight}
 use Rattle.state.specs.declared.State.{State}
 use Rattle.state.specs.declared.Made.{Made}
 

@@ -1,40 +1,20 @@
-// The state between two calls: its parts, how they are stored, the fresh state, and what is in range. And the answers of the calls, which hold one.
+// The state between two calls, the fresh state, and what is in range. And the answers of the calls, which hold one.
 
 ghost use mathlib.Core.Path.{_≡_};
-ghost use Prim.Native.Nat.{_≤_};
-ghost use Rattle.requests.specs.Sizes.{lastCycle};
+ghost use mathlib.Core.Bool.{_&&_};
+ghost use lib.Dec.{leb};
+ghost use lib.ListN.{getD};
+ghost use Rattle.basics.specs.Below.{every};
+ghost use Rattle.masks.specs.Mask.{size};
 ghost use Rattle.state.specs.Fresh.{emptyQueues, nothingInFlight, stateAtStart, fresh};
-ghost use Rattle.state.specs.Range.{countsInRange, flightInRange, stateInRange, inRange};
+ghost use Rattle.state.specs.Range.{countsInRange, stateInRange, inRange};
+use flight::Flight;
 use policy::Policy;
-use policy::Timing;
+use queues::Queues;
 use requests::Record;
-
-mod range;
-pub mod stored;
 
 // The last cycle: a tick there is refused with 12.
 pub const LAST_CYCLE: u32 = 16777215;
-
-// The places of a class's ring, and the pending places; and the arrays that have so many: a ring for each of the sixteen classes, a word for each pending place, and a
-// last activate for each bank.
-pub const RING_PLACES: usize = 8;
-
-pub const PENDING_PLACES: u32 = 32;
-
-pub type Slots = [u32; 128];
-
-pub type Pending = [u32; 32];
-
-pub type Banks = [u32; 8];
-
-// The waiting requests, by their words: a ring of eight places for each class, at eight times the class.
-pub struct Queues {
-    pub slots: Slots,
-    // The place of each class's oldest request in its ring.
-    pub heads: [usize; 16],
-    // How many requests of each class wait.
-    pub lengths: [usize; 16],
-}
 
 // Who has the turn, and what each class has left.
 pub struct Turns {
@@ -45,16 +25,6 @@ pub struct Turns {
     pub left: [u32; 16],
     // Each class's round-robin pointer: the number of the cover that it names, 0 before the class was reached. Document 01: its mark.
     pub pointers: [usize; 16],
-}
-
-// What is on its way, and when the last activates were.
-pub struct Flight {
-    // The words of the pending column commands and responses, each at its due cycle modulo 32; 0 for none.
-    pub columns: Pending,
-    pub responses: Pending,
-    // The last activate of each bank, and of all: twice one more than its cycle, plus its kind; 0 where there was none.
-    pub banks: Banks,
-    pub last: u32,
 }
 
 // A state between two calls.
@@ -100,17 +70,25 @@ fn counts_in_range(p: Policy, s: State) -> bool
     (s.classes == p.classes) & order::is_class(p.classes, turns.owner) & (s.cycle <= LAST_CYCLE)
 }
 
-fn flight_in_range(classes: usize, timing: Timing, cycle: u32, flight: Flight) -> bool
-    requires { ⌜ cycle ≤ lastCycle ⌝ }
-    ensures { λ r. ⌜ r ≡ flightInRange classes timing cycle flight ⌝ }
+// Every class's pointer is one of its covers' numbers or 0, and its turns left are at most its cap.
+fn turns_in_range(
+    covers: &[u16; 16],
+    caps: &[u32; 16],
+    left: &[u32; 16],
+    pointers: &[usize; 16],
+) -> bool
+    ensures { λ r. ⌜ r ≡ every 16 (λ c. leb (getD (now (pointers .entry)) c 0) (size (getD (now (covers .entry)) c 0))
+        && leb (getD (now (left .entry)) c 0) (getD (now (caps .entry)) c 0)) ⌝ }
 {
-    let columns = flight.columns;
-    let responses = flight.responses;
-    let banks = flight.banks;
-    range::activate_in_range(cycle, flight.last)
-        & range::banks_in_range(cycle, &banks)
-        & range::pending_in_range(classes, cycle, timing.column, &columns)
-        & range::pending_in_range(classes, cycle, timing.response, &responses)
+    let mut class = 0;
+    while class < 16 {
+        let covered = masks::size(covers[class]);
+        if !((pointers[class] <= covered) & (left[class] <= caps[class])) {
+            return false;
+        }
+        class += 1;
+    }
+    true
 }
 
 // The state's part of document 01's row 13.
@@ -131,9 +109,9 @@ fn state_in_range(s: State, p: Policy) -> bool
     let covers = p.covers;
     let caps = p.caps;
     let timing = p.timing;
-    range::queues_in_range(p.classes, &slots, &heads, &lengths)
-        & range::turns_in_range(&covers, &caps, &left, &pointers)
-        & flight_in_range(p.classes, timing, s.cycle, flight)
+    queues::queues_in_range(p.classes, &slots, &heads, &lengths)
+        & turns_in_range(&covers, &caps, &left, &pointers)
+        & flight::flight_in_range(p.classes, timing, s.cycle, flight)
 }
 
 // Whether a policy and a state handed in are in range: document 01's row 13 does not apply.

@@ -5,7 +5,7 @@ use Prim.Native.Nat.{ℕ}
 use Rattle.requests.specs.Word.{wordOf}
 use Rattle.rules.specs.Queue.{offerStatus, queuesAfter}
 use Rattle.requests.specs.declared.Request.{Request}
-use Rattle.state.specs.declared.Queues.{Queues}
+use Rattle.queues.specs.declared.Queues.{Queues}
 use Rattle.wires.specs.InPlace.{queuedBy}
 
 -- the status and the word of an offer say what it leaves

@@ -3,13 +3,13 @@ use mathlib.Core.Path.{_≡_}
 use mathlib.Core.Bool.{true, false}
 use Prim.Native.Nat.{ℕ, _%_}
 use lib.Dec.{eqb}
-use Rattle.policy.specs.declared.Timing.{Timing}
+use Rattle.timing.specs.declared.Timing.{Timing}
 use Rattle.requests.specs.Word.{commandNumber}
 use Rattle.rules.specs.Queue.{enqueue}
 use Rattle.rules.specs.Step.{Bus, drive}
 use Rattle.rules.specs.Ready.{Ready}
-use Rattle.state.specs.declared.Queues.{Queues}
-use Rattle.state.specs.declared.Flight.{Flight}
+use Rattle.queues.specs.declared.Queues.{Queues}
+use Rattle.flight.specs.declared.Flight.{Flight}
 use Rattle.wires.specs.declared.Instant.{Instant}
 use Rattle.wires.specs.declared.Drove.{Drove}
 

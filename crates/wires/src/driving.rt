@@ -7,16 +7,16 @@ ghost use lib.Dec.{ltb};
 ghost use lib.ListN.{getD};
 ghost use Rattle.requests.specs.Sizes.{lastCycle, bankCount};
 ghost use Rattle.requests.specs.Word.{kindOf, bankOf};
-ghost use Rattle.state.specs.Stored.{place, flightOf};
+ghost use Rattle.queues.specs.Waiting.{place};
+ghost use Rattle.flight.specs.Flight.{flightOf};
 ghost use Rattle.rules.specs.Wire.{activated};
-use policy::Timing;
+use flight::Banks;
+use flight::PENDING_PLACES;
+use flight::Pending;
+use queues::Slots;
 use requests::BANK_COUNT;
 use requests::words;
-use state::Banks;
-use state::PENDING_PLACES;
-use state::Pending;
-use state::Slots;
-use state::stored;
+use timing::Timing;
 
 // The owner may activate at offsets before the dead time, or at all offsets if it is elided.
 pub(crate) fn offset_allows(timing: Timing, elided: bool, offset: u32) -> bool
@@ -41,7 +41,7 @@ pub(crate) fn activate(
     let column = (std::num::wrapping_add_u32(cycle, timing.column) % PENDING_PLACES) as usize;
     let response = (std::num::wrapping_add_u32(cycle, timing.response) % PENDING_PLACES) as usize;
     let bank = words::bank_of(word) as usize % BANK_COUNT;
-    let last = stored::activate_at(cycle, words::kind_of(word));
+    let last = flight::activate_at(cycle, words::kind_of(word));
     columns[column] = word;
     responses[response] = word;
     banks[bank] = last;
@@ -53,6 +53,6 @@ pub(crate) fn head_of(slots: &Slots, heads: &[usize; 16], class: usize) -> u32
     requires { ⌜ class < 16 ⌝ }
     ensures { λ r. ⌜ r ≡ getD (now (slots .entry)) (place class (getD (now (heads .entry)) class 0) 0) 0 ⌝ }
 {
-    let place = stored::place(class, heads[class], 0);
+    let place = queues::place(class, heads[class], 0);
     slots[place]
 }

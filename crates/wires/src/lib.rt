@@ -3,18 +3,19 @@
 
 ghost use mathlib.Core.Path.{_≡_};
 ghost use Rattle.order.specs.Laws.{SmallClasses};
-ghost use Rattle.state.specs.Stored.{queuesOf, flightOf};
+ghost use Rattle.queues.specs.Waiting.{queuesOf};
+ghost use Rattle.flight.specs.Flight.{flightOf};
 ghost use Rattle.rules.specs.Queue.{offerStatus};
 ghost use Rattle.wires.specs.InPlace.{queuedBy, busOf, Drives};
-use policy::Timing;
+use flight::Banks;
+use flight::PENDING_PLACES;
+use flight::Pending;
+use queues::RING_PLACES;
+use queues::Slots;
 use requests::BANK_COUNT;
 use requests::Request;
 use requests::words;
-use state::Banks;
-use state::PENDING_PLACES;
-use state::Pending;
-use state::RING_PLACES;
-use state::Slots;
+use timing::Timing;
 
 mod driving;
 mod queueing;

@@ -3,12 +3,11 @@
 ghost use mathlib.Core.Path.{_≡_};
 ghost use Prim.Native.Nat.{_+_, _-_, _%_, _<_};
 ghost use lib.ListN.{getD, set};
-ghost use Rattle.state.specs.Stored.{queuesOf};
+ghost use Rattle.queues.specs.Waiting.{queuesOf};
 ghost use Rattle.rules.specs.Queue.{enqueue};
 ghost use Rattle.requests.specs.Sizes.{ringPlaces};
-use state::RING_PLACES;
-use state::Slots;
-use state::stored;
+use queues::RING_PLACES;
+use queues::Slots;
 
 // Puts a word at the end of a class's queue, which is not full.
 pub(crate) fn enqueue(
@@ -24,7 +23,7 @@ pub(crate) fn enqueue(
 {
     let head = heads[class];
     let length = lengths[class];
-    slots[stored::place(class, head, length)] = word;
+    slots[queues::place(class, head, length)] = word;
     lengths[class] = length + 1;
 }
 

@@ -12,10 +12,10 @@ use borrow.Author.Tests.{eqb-true, eq-eqb, ltb-true}
 use lib.Dec.{eqb}
 use lib.ListN.{length, getD}
 use Rattle.basics.specs.Below.{every, some, first, count, sum, setOf, listOf}
-use Rattle.order.specs.Mask.{member, includes, size, nth, belowMask}
+use Rattle.masks.specs.Mask.{member, includes, size, nth, belowMask}
 use Rattle.order.specs.Order.{isClassIn, flowsIn, strictlyIn, rowFits, rowsFit, antisymmetricAt, antisymmetric, transitiveAt, transitive, hasLeast, leastAt, leastIn, betweenIn, coversIn, coverSet}
-use Rattle.policy.specs.Turns.{minimumsSum, turnsSound, minimumsAbove, capIn}
-use Rattle.policy.specs.Timing.{within, gapsWithin, bankWithin, timingSound}
+use Rattle.turns.specs.Turns.{minimumsSum, turnsSound, minimumsAbove, capIn}
+use Rattle.timing.specs.Timing.{within, gapsWithin, bankWithin, timingSound}
 use Rattle.policy.specs.Policy.{isClass, least, above, coversOf, cap, firstFailing, policyTests, refusal, storedFits, allStoredFits, shaped, inRange}
 use Rattle.file.specs.File.{byte, word, kind, start, bodySize, kindsFit, bodiesAbut, contentsFit, classCount, lengthsFit, rowAt, epochOf, minimumAt, timingOf, held, noPolicy, fileTests, status, refusedWith, readFile}
 use Rattle.file.specs.Taken.{policyOf}
@@ -24,7 +24,8 @@ use Rattle.file.specs.declared.Reading.{Reading}
 use Rattle.basics.proofs.Truth.{either, not-both, and-fails-left, or-cases, on-true}
 use Rattle.policy.proofs.Laws.{policy-laws}
 use Rattle.requests.specs.Word.{classOf, kindOf, bankOf, tagOf, isOffer, requestOf, wordOf, classFits, bankAndKindFit, columnNumber, commandNumber}
-use Rattle.state.specs.Stored.{headOf, lengthOf, place, waitingAt, dueAt, activateAt, activateNext, activateKind, sentAt}
+use Rattle.queues.specs.Waiting.{headOf, lengthOf, place, waitingAt}
+use Rattle.flight.specs.Flight.{dueAt, activateAt, activateNext, activateKind, sentAt}
 use Rattle.rules.specs.Queue.{enqueue, dequeue, offerStatus, queuesAfter}
 use Rattle.rules.specs.Traversal.{firstClass, candidates, moved, movedPointer, reachedAt, named, takesBy, takes, endsAt, tryClass, charge}
 use Rattle.rules.specs.Lookahead.{goesOn, reaches, aheadOf, nextLeft, elides}

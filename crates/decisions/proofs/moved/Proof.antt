@@ -4,7 +4,7 @@ use Prim.Native.Nat.{_≤_, _<_}
 use native.Mathlib.Omega.{arith}
 use borrow.Author.Needs.{needs}
 use borrow.Author.Tests.{eq-eqb, ne-eqb, lt-ltb, le-ltb}
-use Rattle.order.specs.Mask.{size}
+use Rattle.masks.specs.Mask.{size}
 use Rattle.rules.specs.Traversal.{moved}
 use Rattle.decisions.proofs.moved.Statement.{statement}
 use Rattle.decisions.proofs.moved.Tie as tie

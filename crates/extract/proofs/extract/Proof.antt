@@ -8,7 +8,7 @@ use native.Mathlib.Omega.{arith}
 use borrow.Author.Tests.{eqb-true}
 use borrow.Author.Needs.{needs}
 use lib.ListN.{length, drop}
-use Rattle.order.specs.Mask.{member}
+use Rattle.masks.specs.Mask.{member}
 use Rattle.policy.specs.Policy.{inRange, isClass}
 use Rattle.basics.proofs.Truth.{not-true, not-not}
 use Rattle.extract.specs.Extract.{extractStatus}

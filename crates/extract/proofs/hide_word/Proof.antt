@@ -2,7 +2,7 @@
 -- Assumes nothing.
 use mathlib.Core.Path.{_≡_, sym, ap, _∙_}
 use borrow.Author.Needs.{needs}
-use Rattle.order.specs.Mask.{member}
+use Rattle.masks.specs.Mask.{member}
 use Rattle.requests.specs.Word.{classOf}
 use Rattle.extract.specs.Extract.{hideWord}
 use Rattle.extract.proofs.hide_word.Statement.{statement}

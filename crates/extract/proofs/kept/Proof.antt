@@ -8,7 +8,7 @@ use native.Mathlib.Omega.{arith}
 use borrow.Author.Needs.{needs}
 use lib.ListN.{length, take}
 use lib.Seq.{take-all}
-use Rattle.order.specs.Mask.{member}
+use Rattle.masks.specs.Mask.{member}
 use Rattle.extract.specs.Seen.{staying}
 use Rattle.extract.proofs.Grown.{kept-more, kept-same}
 use Rattle.extract.proofs.kept.Statement.{statement}

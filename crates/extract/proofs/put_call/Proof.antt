@@ -7,7 +7,7 @@ use Prim.Native.Nat.{ℕ, _+_}
 use native.Mathlib.Nat.{add-zero}
 use native.Mathlib.Omega.{arith}
 use borrow.Author.Needs.{needs}
-use Rattle.order.specs.Mask.{member}
+use Rattle.masks.specs.Mask.{member}
 use Rattle.extract.specs.Seen.{stays}
 use Rattle.extract.specs.Extract.{lineSeenAt}
 use Rattle.extract.proofs.Grown.{four-left, none-left}

@@ -5,7 +5,7 @@ use mathlib.Core.List.{List}
 use Prim.Native.Nat.{ℕ}
 use borrow.Author.Needs.{needs}
 use lib.Seq.{sets}
-use Rattle.order.specs.Mask.{member}
+use Rattle.masks.specs.Mask.{member}
 use Rattle.extract.proofs.Grown.{tick-line, offer-line}
 use Rattle.extract.proofs.put_line.Statement.{statement}
 use Rattle.extract.proofs.put_line.Tie as tie

@@ -11,8 +11,8 @@ use borrow.Author.Needs.{needs}
 use borrow.Author.Tests.{lt-ltb}
 use lib.Pow.{pow-mono}
 use Rattle.basics.specs.Below.{sum, setOf}
-use Rattle.order.specs.Mask.{classMask}
-use Rattle.order.proofs.Masks.{setOf-below}
+use Rattle.masks.specs.Mask.{classMask}
+use Rattle.masks.proofs.Masks.{setOf-below}
 use Rattle.extract.specs.Seen.{seenBy}
 use Rattle.extract.proofs.seen_by.Statement.{statement}
 use Rattle.extract.proofs.seen_by.Tie as tie

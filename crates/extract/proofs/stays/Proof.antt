@@ -2,7 +2,7 @@
 -- Assumes nothing.
 use mathlib.Core.Path.{sym, ap, _∙_}
 use borrow.Author.Needs.{needs}
-use Rattle.order.specs.Mask.{member}
+use Rattle.masks.specs.Mask.{member}
 use Rattle.extract.specs.Seen.{callStays, stays}
 use Rattle.extract.proofs.stays.Statement.{statement}
 use Rattle.extract.proofs.stays.Tie as tie

@@ -7,7 +7,7 @@ use native.Mathlib.Omega.{arith}
 use borrow.Author.Needs.{needs}
 use lib.ListN.{length, take, drop}
 use lib.Seq.{take-all}
-use Rattle.order.specs.Mask.{member}
+use Rattle.masks.specs.Mask.{member}
 use Rattle.extract.specs.Extract.{extractOf}
 use Rattle.extract.proofs.Grown.{line-fits, line-more}
 use Rattle.extract.proofs.write.Statement.{statement}

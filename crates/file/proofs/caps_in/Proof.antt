@@ -2,7 +2,7 @@
 -- Assumes nothing.
 use Prim.Native.Nat.{_-_}
 use borrow.Author.Needs.{needs}
-use Rattle.policy.specs.Turns.{capIn}
+use Rattle.turns.specs.Turns.{capIn}
 use Rattle.basics.proofs.Loops.{Filled, filled-none, filled-more, filled-all}
 use Rattle.file.proofs.caps_in.Statement.{statement}
 use Rattle.file.proofs.caps_in.Tie as tie

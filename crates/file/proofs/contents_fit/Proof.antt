@@ -1,7 +1,7 @@
 -- `file::contents_fit` meets its contract: the definition, with what the callees promise.
 -- Assumes nothing.
 use borrow.Author.Needs.{needs}
-use Rattle.policy.specs.Timing.{within}
+use Rattle.timing.specs.Timing.{within}
 use Rattle.file.specs.File.{contentsFit}
 use Rattle.file.proofs.contents_fit.Statement.{statement}
 use Rattle.file.proofs.contents_fit.Tie as tie

@@ -1,7 +1,7 @@
 -- `file::lengths_fit` meets its contract: the definition, with what the callees promise.
 -- Assumes nothing.
 use borrow.Author.Needs.{needs}
-use Rattle.policy.specs.Timing.{within}
+use Rattle.timing.specs.Timing.{within}
 use Rattle.file.specs.File.{lengthsFit, classCount}
 use Rattle.file.proofs.lengths_fit.Statement.{statement}
 use Rattle.file.proofs.lengths_fit.Tie as tie

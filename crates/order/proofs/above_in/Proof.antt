@@ -2,7 +2,7 @@
 -- Assumes nothing.
 use mathlib.Core.Path.{ap, _∙_}
 use borrow.Author.Needs.{needs}
-use Rattle.order.specs.Mask.{size}
+use Rattle.masks.specs.Mask.{size}
 use Rattle.order.proofs.Orders.{above-size}
 use Rattle.order.proofs.above_in.Statement.{statement}
 use Rattle.order.proofs.above_in.Tie as tie

@@ -2,7 +2,7 @@
 -- Assumes nothing.
 use mathlib.Core.Path.{ap₂, _∙_}
 use borrow.Author.Needs.{needs}
-use Rattle.order.specs.Mask.{difference}
+use Rattle.masks.specs.Mask.{difference}
 use Rattle.order.proofs.Orders.{above-is}
 use Rattle.order.proofs.above_set.Statement.{statement}
 use Rattle.order.proofs.above_set.Tie as tie

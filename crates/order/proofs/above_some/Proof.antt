@@ -9,11 +9,11 @@ use native.Mathlib.Omega.{arith}
 use borrow.Author.Needs.{needs}
 use lib.Bits.{or-lt}
 use Rattle.basics.specs.Below.{some}
-use Rattle.order.specs.Mask.{member}
+use Rattle.masks.specs.Mask.{member}
 use Rattle.order.specs.Order.{strictlyIn, aboveSome}
 use Rattle.basics.proofs.Truth.{or-false}
 use Rattle.basics.proofs.Below.{some-none, some-step}
-use Rattle.order.proofs.Masks.{member-zero, member-or, is-setOf}
+use Rattle.masks.proofs.Masks.{member-zero, member-or, is-setOf}
 use Rattle.order.proofs.Orders.{member-above}
 use Rattle.order.proofs.above_some.Statement.{statement}
 use Rattle.order.proofs.above_some.Tie as tie

@@ -2,7 +2,7 @@
 -- Assumes nothing.
 use mathlib.Core.Path.{ap, ap₂, _∙_}
 use borrow.Author.Needs.{needs}
-use Rattle.order.specs.Mask.{difference}
+use Rattle.masks.specs.Mask.{difference}
 use Rattle.order.specs.Order.{aboveSome}
 use Rattle.order.proofs.Orders.{covers-are}
 use Rattle.order.proofs.cover_set.Statement.{statement}

@@ -7,7 +7,7 @@ use Prim.Native.Nat.{ℕ, _-_}
 use borrow.Author.Needs.{needs}
 use lib.ListN.{getD}
 use Rattle.basics.specs.Below.{every}
-use Rattle.order.specs.Mask.{member, includes}
+use Rattle.masks.specs.Mask.{member, includes}
 use Rattle.order.specs.Order.{flowsIn, transitiveAt}
 use Rattle.basics.proofs.Truth.{implies-asked}
 use Rattle.basics.proofs.Loops.{Passed, passed-none, passed-more, passed-all, passed-not}

@@ -9,7 +9,7 @@ use mir.Syntax.{w16}
 use mir.Val.{Fits}
 use lib.Dec.{eqb, ltb}
 use lib.ListN.{length, getD}
-use Rattle.policy.specs.Timing.{within}
+use Rattle.timing.specs.Timing.{within}
 use Rattle.policy.specs.Policy.{shaped, inRange}
 use Rattle.basics.proofs.Truth.{and-both}
 use Rattle.basics.proofs.Below.{every-all}

@@ -5,7 +5,7 @@ use mathlib.Core.Path.{_≡_, sym, _∙_}
 use mathlib.Core.Bool.{true}
 use borrow.Author.Needs.{needs}
 use Rattle.order.specs.Order.{rowsFit, antisymmetric, transitive, hasLeast}
-use Rattle.policy.specs.Turns.{turnsSound}
+use Rattle.turns.specs.Turns.{turnsSound}
 use Rattle.policy.specs.Policy.{refusal, policyTests, firstFailing}
 use Rattle.basics.proofs.Truth.{not-true, not-not}
 use Rattle.policy.proofs.refusal.Statement.{statement}

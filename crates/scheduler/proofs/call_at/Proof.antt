@@ -6,13 +6,13 @@ use borrow.Author.Needs.{needs}
 use borrow.Author.Tests.{lt-ltb, le-ltb}
 use Rattle.requests.specs.Sizes.{lastCycle}
 use Rattle.requests.specs.Word.{commandNumber}
-use Rattle.state.specs.Stored.{queuesOf}
+use Rattle.queues.specs.Waiting.{queuesOf}
 use Rattle.requests.specs.Trace.{callOf}
 use Rattle.rules.specs.Call.{offerOn, silent}
 use Rattle.rules.specs.Calls.{Answer, ticked, offered, answerTo}
 use Rattle.scheduler.specs.InPlace.{stateOf, answerOf, answeredWith, Continues}
 use Rattle.scheduler.specs.declared.ticking.Called.{Called}
-use Rattle.state.specs.declared.Queues.{Queues}
+use Rattle.queues.specs.declared.Queues.{Queues}
 use Rattle.state.specs.declared.State.{State}
 use Rattle.requests.specs.declared.Call.{Call}
 use Rattle.rules.proofs.Range.{ranged, small-classes}

@@ -1,15 +1,13 @@
 -- `state::state_in_range` meets its contract: the definition, with what the callees promise; that the state is shaped is what its types say.
 -- Assumes nothing.
 use mathlib.Core.Path.{_≡_, sym, _∙_}
-use mathlib.Core.Bool.{true, _&&_}
-use native.Mathlib.Omega.{arith}
+use mathlib.Core.Bool.{true}
 use borrow.Author.Needs.{needs}
-use borrow.Author.Tests.{eq-eqb, leb-true}
-use lib.Dec.{leb, eqb}
+use borrow.Author.Tests.{eq-eqb}
 use lib.ListN.{length}
-use Rattle.policy.specs.Policy.{isClass, coversOf, coverCount, cap}
-use Rattle.basics.proofs.Truth.{and-both, and-right, not-true, not-not}
-use Rattle.state.specs.Range.{shaped, countsInRange, turnsInRange, stateInRange}
+use Rattle.policy.specs.Policy.{coversOf, coverCount, cap}
+use Rattle.basics.proofs.Truth.{and-both, not-true, not-not}
+use Rattle.state.specs.Range.{shaped, turnsInRange, stateInRange}
 use Rattle.state.proofs.state_in_range.Statement.{statement}
 use Rattle.state.proofs.state_in_range.Tie as tie
 
@@ -28,18 +26,6 @@ else1-of-slots2 c = else1-of-covers (c .before .before .before)
 
 abbrev else1-of-queues-in-range : tie.After-queues-in-range → tie.Else1
 else1-of-queues-in-range c = else1-of-slots2 (c .before .before .before)
-
-abbrev else1-of-left2 : tie.After-left2 → tie.Else1
-else1-of-left2 c = else1-of-queues-in-range (c .before .before .before)
-
-abbrev else1-of-turns-in-range : tie.After-turns-in-range → tie.Else1
-else1-of-turns-in-range c = else1-of-left2 (c .before .before)
-
-abbrev counts-in-range-of-turns-in-range : tie.After-turns-in-range → tie.After-counts-in-range
-counts-in-range-of-turns-in-range c = else1-of-turns-in-range c .before
-
-abbrev start-of-turns-in-range : tie.After-turns-in-range → tie.Start
-start-of-turns-in-range c = counts-in-range-of-turns-in-range c .before
 
 well-shaped : (c : tie.Start) → shaped (c .args .s) ≡ true
 unfolding shaped
@@ -77,11 +63,7 @@ turns-in-range-requires : tie.Need-turns-in-range-requires
 turns-in-range-requires c κs = search needs
 
 flight-in-range-requires : tie.Need-flight-in-range-requires
-unfolding countsInRange
-flight-in-range-requires c κs =
-    let start = start-of-turns-in-range c in
-    let counts = sym (counts-in-range-of-turns-in-range c .counts-in-range .ensures) ∙ not-not _ (else1-of-turns-in-range c .if1 .left) in
-    omega (arith, leb-true (start .args .s .cycle) 16777215 (and-right (eqb (start .args .s .classes) (start .args .p .classes) && isClass (start .args .p) (start .args .s .turns .owner)) (leb (start .args .s .cycle) 16777215) counts))
+flight-in-range-requires c κs = search needs
 
 returns-2 : tie.Need-returns-2
 unfolding stateInRange turnsInRange coverCount coversOf cap

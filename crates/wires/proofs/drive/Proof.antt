@@ -11,7 +11,8 @@ use lib.Dec.{ltb, eqb}
 use lib.ListN.{getD}
 use Rattle.basics.proofs.Truth.{false-unless, not-both, not-true, not-not, and-left, and-right, and-both, and-fails-left, and-fails-right}
 use Rattle.requests.specs.Word.{isOffer, columnNumber, commandNumber}
-use Rattle.state.specs.Stored.{headOf, lengthOf, waitingAt, dueAt, queuesOf, flightOf, sentAt}
+use Rattle.queues.specs.Waiting.{headOf, lengthOf, waitingAt, queuesOf}
+use Rattle.flight.specs.Flight.{dueAt, flightOf, sentAt}
 use Rattle.rules.specs.Queue.{dequeue}
 use Rattle.rules.specs.Wire.{gapsMetBy, gapsMet, offsetAllows, activated}
 use Rattle.rules.specs.Step as step
@@ -19,7 +20,7 @@ use Rattle.rules.specs.Step.{Bus, dueColumn, goesAt, going, canActivate, drive}
 use Rattle.rules.specs.Ready.{SoundRequest}
 use Rattle.wires.specs.InPlace.{busOf, Drivable, Driven}
 use Rattle.wires.specs.declared.Drove.{Drove}
-use Rattle.state.specs.declared.Queues.{Queues}
+use Rattle.queues.specs.declared.Queues.{Queues}
 use Rattle.requests.proofs.Word.{word-back, offer-fits}
 use Rattle.rules.proofs.Step.{drive-column, drive-nothing, drive-activate}
 use Rattle.wires.proofs.drive.Statement.{statement}

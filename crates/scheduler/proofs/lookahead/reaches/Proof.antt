@@ -8,11 +8,11 @@ use borrow.Author.Needs.{needs}
 use borrow.Author.Tests.{eq-eqb, ne-eqb}
 use lib.Dec.{eqb}
 use lib.ListN.{getD}
-use Rattle.order.specs.Mask.{member, nth}
+use Rattle.masks.specs.Mask.{member, nth}
 use Rattle.order.specs.Order.{flowsIn, strictlyIn, aboveIn}
 use Rattle.basics.proofs.Truth.{not-true, not-not}
 use Rattle.basics.proofs.Below.{count-le}
-use Rattle.order.proofs.Masks.{member-small}
+use Rattle.masks.proofs.Masks.{member-small}
 use Rattle.rules.specs.Traversal.{movedPointer, named}
 use Rattle.rules.specs.Lookahead.{Ahead, lookingAhead, goesOn, reaches}
 use Rattle.rules.proofs.Lookahead.{reach-here, reach-fails, reach-on, on-covers, reach-enough}

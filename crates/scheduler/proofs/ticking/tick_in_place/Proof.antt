@@ -6,14 +6,15 @@ use Prim.Native.Nat.{ℕ, _+_, _<_}
 use borrow.Author.Needs.{needs}
 use Rattle.policy.proofs.Laws.{policy-laws}
 use Rattle.requests.specs.Word.{commandNumber}
-use Rattle.state.specs.Stored.{dueAt, queuesOf, flightOf}
+use Rattle.flight.specs.Flight.{dueAt, flightOf}
+use Rattle.queues.specs.Waiting.{queuesOf}
 use Rattle.rules.specs.Step as step
 use Rattle.rules.specs.Step.{TurnStart, turnsAt, Bus, drive, answered}
 use Rattle.rules.specs.Call.{busAt, afterTick}
 use Rattle.rules.specs.Calls.{Answer}
 use Rattle.scheduler.specs.InPlace.{stateOf, startOf}
-use Rattle.state.specs.declared.Queues.{Queues}
-use Rattle.state.specs.declared.Flight.{Flight}
+use Rattle.queues.specs.declared.Queues.{Queues}
+use Rattle.flight.specs.declared.Flight.{Flight}
 use Rattle.state.specs.declared.State.{State}
 use Rattle.wires.specs.InPlace.{Driven}
 use Rattle.rules.proofs.Step.{turn-owner}

@@ -3,8 +3,8 @@
 use native.Mathlib.Omega.{arith}
 use borrow.Author.Needs.{needs}
 use lib.ListN.{getD}
-use Rattle.state.specs.Stored.{place}
-use Rattle.state.proofs.Rings.{of-class}
+use Rattle.queues.specs.Waiting.{place}
+use Rattle.queues.proofs.Waiting.{of-class}
 use Rattle.wires.proofs.driving.head_of.Statement.{statement}
 use Rattle.wires.proofs.driving.head_of.Tie as tie
 

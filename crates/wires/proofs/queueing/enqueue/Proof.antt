@@ -3,8 +3,8 @@
 use native.Mathlib.Omega.{arith}
 use borrow.Author.Needs.{needs}
 use lib.ListN.{getD}
-use Rattle.state.specs.Stored.{headOf, lengthOf, place}
-use Rattle.state.proofs.Rings.{of-class}
+use Rattle.queues.specs.Waiting.{headOf, lengthOf, place}
+use Rattle.queues.proofs.Waiting.{of-class}
 use Rattle.rules.specs.Queue.{enqueue}
 use Rattle.wires.proofs.queueing.enqueue.Statement.{statement}
 use Rattle.wires.proofs.queueing.enqueue.Tie as tie

@@ -1,0 +1,6 @@
+-- Laws that belong to no one function.
+
+-- of sets of classes as numbers
+pub mod Masks
+-- of the numbers that the classes of a set have
+pub mod Numbered

@@ -1,0 +1,87 @@
+-- `queues::queues_in_range` meets its contract. The invariant: the test passes at every number below `class`.
+-- Assumes nothing.
+use mathlib.Core.Bool.{Bool}
+use mathlib.Core.List.{List}
+use Prim.Native.Nat.{ℕ, _-_}
+use borrow.Author.Needs.{needs}
+use Rattle.basics.proofs.Loops.{Passed, passed-none, passed-all, goes-on, stops}
+use Rattle.queues.specs.Waiting.{queueInRange, headOf, lengthOf}
+use Rattle.queues.proofs.queues_in_range.Statement.{statement}
+use Rattle.queues.proofs.queues_in_range.Tie as tie
+
+-- the test at a number
+abbrev test : ℕ → List ℕ → List ℕ → List ℕ → ℕ → Bool
+test classes slots heads lengths k = queueInRange classes (record { slots = slots; heads = heads; lengths = lengths }) k
+
+abbrev Inv-loop : tie.InvT-loop
+Inv-loop classes slots heads lengths class₀ class = Passed (test classes slots heads lengths) 16 class
+
+abbrev μ-loop : tie.MeasureT-loop
+μ-loop classes slots heads lengths class₀ class = 16 - class
+
+-- the places that the answers look back to: `in-loop-of-queue-in-range` is `In-loop`, seen from `After-queue-in-range`
+abbrev in-loop-of-queue-in-range : tie.After-queue-in-range Inv-loop μ-loop → tie.In-loop Inv-loop μ-loop
+in-loop-of-queue-in-range c = c .before .before .before
+
+abbrev in-loop-of-then1 : tie.Then1 Inv-loop μ-loop → tie.In-loop Inv-loop μ-loop
+in-loop-of-then1 c = in-loop-of-queue-in-range (c .before)
+
+abbrev in-loop-of-else1 : tie.Else1 Inv-loop μ-loop → tie.In-loop Inv-loop μ-loop
+in-loop-of-else1 c = in-loop-of-queue-in-range (c .before)
+
+loop-holds : tie.Need-loop-holds Inv-loop μ-loop
+loop-holds c = passed-none _ 16
+
+mul-queue-in-range : tie.Need-mul-queue-in-range Inv-loop μ-loop
+mul-queue-in-range c = search needs
+
+element-copy-out-queue-in-range : tie.Need-element-copy-out-queue-in-range Inv-loop μ-loop
+element-copy-out-queue-in-range c = search needs
+
+mul-queue-in-range-2 : tie.Need-mul-queue-in-range-2 Inv-loop μ-loop
+mul-queue-in-range-2 c = search needs
+
+element-copy-out-queue-in-range-2 : tie.Need-element-copy-out-queue-in-range-2 Inv-loop μ-loop
+element-copy-out-queue-in-range-2 c = search needs
+
+queue-in-range-requires : tie.Need-queue-in-range-requires Inv-loop μ-loop
+queue-in-range-requires c κs = search needs
+
+returns : tie.Need-returns Inv-loop μ-loop
+unfolding queueInRange headOf lengthOf
+returns c = let body = in-loop-of-then1 c in stops _ 16 (body .before .loop .class) (body .loop-test .taken) (c .before .queue-in-range .ensures) (c .if1 .taken)
+
+add-class : tie.Need-add-class Inv-loop μ-loop
+add-class c = search needs
+
+loop-less : tie.Need-loop-less Inv-loop μ-loop
+loop-less c = search needs
+
+loop-again : tie.Need-loop-again Inv-loop μ-loop
+unfolding queueInRange headOf lengthOf
+loop-again c = let body = in-loop-of-else1 c in
+    let loop = body .before in goes-on _ 16 (loop .loop .class) (loop .loop .inv) (body .loop-test .taken) (c .before .queue-in-range .ensures) (c .if1 .left)
+
+returns-2 : tie.Need-returns-2 Inv-loop μ-loop
+unfolding queueInRange headOf lengthOf
+returns-2 c =
+    let loop = c .before in
+    passed-all _ 16 (loop .loop .class) (loop .loop .inv) (c .loop-test .left)
+
+pub queues-in-range-spec : {M : Type 1} → statement M
+queues-in-range-spec =
+    tie.close
+    (tie.spec
+    Inv-loop
+    μ-loop
+    loop-holds
+    mul-queue-in-range
+    element-copy-out-queue-in-range
+    mul-queue-in-range-2
+    element-copy-out-queue-in-range-2
+    queue-in-range-requires
+    returns
+    add-class
+    loop-less
+    loop-again
+    returns-2)

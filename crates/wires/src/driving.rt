@@ -1,15 +1,14 @@
 // The parts of driving the command wires: the offset in the turn, the head of a queue, and an activate.
 
 ghost use mathlib.Core.Path.{_≡_};
-ghost use mathlib.Core.Bool.{_||_};
-ghost use Prim.Native.Nat.{_-_, _<_};
-ghost use lib.Dec.{ltb};
+ghost use Prim.Native.Nat.{_%_, _<_};
 ghost use lib.ListN.{getD};
+ghost use Rattle.policy.specs.Laws.{TimingLaws};
 ghost use Rattle.requests.specs.Sizes.{lastCycle, bankCount};
 ghost use Rattle.requests.specs.Word.{kindOf, bankOf};
 ghost use Rattle.queues.specs.Waiting.{place};
 ghost use Rattle.flight.specs.Flight.{flightOf};
-ghost use Rattle.rules.specs.Wire.{activated};
+ghost use Rattle.rules.specs.Wire.{offsetAllows, activated};
 use flight::Banks;
 use flight::PENDING_PLACES;
 use flight::Pending;
@@ -19,10 +18,10 @@ use requests::words;
 use timing::Timing;
 
 // The owner may activate at offsets before the dead time, or at all offsets if it is elided.
-pub(crate) fn offset_allows(timing: Timing, elided: bool, offset: u32) -> bool
-    ensures { λ r. ⌜ r ≡ (elided || ltb offset (timing .turn - timing .dead)) ⌝ }
+pub(crate) fn offset_allows(timing: Timing, elided: bool, cycle: u32, offset: u32) -> bool
+    ensures { λ r. ⌜ (TimingLaws timing × (offset ≡ cycle % timing .turn) → r ≡ offsetAllows timing elided cycle) ⌝ }
 {
-    elided | (offset as u64 + (timing.dead as u64) < timing.turn as u64)
+    elided | (offset < std::num::wrapping_sub_u32(timing.turn, timing.dead))
 }
 
 // An activate brings its column command and its response after their delays, and is the last activate of its bank and of all.

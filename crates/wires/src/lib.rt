@@ -91,10 +91,10 @@ pub fn drive(
         let command = std::num::wrapping_add_u32(due, words::COLUMN);
         return Drove { command, last };
     }
-    let owner = at.owner;
-    if !(driving::offset_allows(timing, at.elided, at.offset) & (owner < 16)) {
+    if !driving::offset_allows(timing, at.elided, at.cycle, at.offset) {
         return Drove { command: 0, last };
     }
+    let owner = at.owner % 16;
     if lengths[owner] == 0 {
         return Drove { command: 0, last };
     }

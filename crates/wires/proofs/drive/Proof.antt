@@ -2,16 +2,16 @@
 -- the tests that led to it.
 -- Assumes nothing.
 use mathlib.Core.Path.{_≡_, refl, sym, ap, ap₂, _∙_, subst}
-use mathlib.Core.Bool.{Bool, true, false, _||_, _&&_}
-use Prim.Native.Nat.{ℕ, _+_, _-_, _%_, _<_}
+use mathlib.Core.Bool.{Bool, true, _&&_}
+use Prim.Native.Nat.{ℕ, _+_, _-_, _%_, _≤_, _<_}
 use native.Mathlib.Omega.{arith}
 use borrow.Author.Needs.{needs}
-use borrow.Author.Tests.{eq-eqb, ne-eqb, lt-ltb, le-ltb, ltb-true}
+use borrow.Author.Tests.{eq-eqb, ne-eqb, lt-ltb, le-ltb}
 use lib.Dec.{ltb, eqb}
-use lib.ListN.{getD}
-use Rattle.basics.proofs.Truth.{false-unless, not-both, not-true, not-not, and-left, and-right, and-both, and-fails-left, and-fails-right}
+use lib.ListN.{getD, set}
+use Rattle.basics.proofs.Truth.{not-true, not-not, and-both, and-fails-left, and-fails-right}
 use Rattle.requests.specs.Word.{isOffer, columnNumber, commandNumber}
-use Rattle.queues.specs.Waiting.{headOf, lengthOf, waitingAt, queuesOf}
+use Rattle.queues.specs.Waiting.{headOf, lengthOf, place, waitingAt, queuesOf}
 use Rattle.flight.specs.Flight.{dueAt, flightOf, sentAt}
 use Rattle.rules.specs.Queue.{dequeue}
 use Rattle.rules.specs.Wire.{gapsMetBy, gapsMet, offsetAllows, activated}
@@ -34,8 +34,14 @@ start-1 c = c .before .before .before
 abbrev start-2 : tie.Else2 → tie.Start
 start-2 c = start-1 (c .before .before)
 
+abbrev else2-of-else3 : tie.Else3 → tie.Else2
+else2-of-else3 c = c .before .before .before
+
+abbrev else1-of-else3 : tie.Else3 → tie.Else1
+else1-of-else3 c = else2-of-else3 c .before .before
+
 abbrev start-3 : tie.Else3 → tie.Start
-start-3 c = start-2 (c .before .before)
+start-3 c = start-2 (else2-of-else3 c)
 
 abbrev start-head : tie.After-head-of → tie.Start
 start-head c = start-3 (c .before .before)
@@ -64,32 +70,33 @@ none-due : (c : tie.Else1) → eqb (dueColumn (bus-of (start-1 c))) 0 ≡ true
 unfolding dueAt
 none-due c = eq-eqb (dueColumn (bus-of (start-1 c))) 0 (omega (arith, c .if1 .left))
 
--- the offset that is handed in is that of the cycle
-allows : (s : tie.Start) → Given s → (s .args .at .elided || ltb (s .args .at .offset) (s .args .timing .turn - s .args .timing .dead)) ≡ offsetAllows (s .args .timing) (s .args .at .elided) (s .args .at .cycle)
-unfolding offsetAllows
-allows s g = ap (λ (k : ℕ). s .args .at .elided || ltb k (s .args .timing .turn - s .args .timing .dead)) (g .in-step)
-
--- the offset allows an activate
-allowed : (c : tie.Else2) → Given (start-2 c) → offsetAllows (start-2 c .args .timing) (start-2 c .args .at .elided) (start-2 c .args .at .cycle) ≡ true
-allowed c g = sym (allows (start-2 c) g) ∙ sym (c .before .offset-allows .ensures) ∙ and-left _ _ (not-not _ (c .if2 .left))
+-- what the offset test says is what the definition says
+allows : (c : tie.After-offset-allows) → Given (start-1 (c .before)) → c .offset-allows .result ≡ offsetAllows (start-1 (c .before) .args .timing) (start-1 (c .before) .args .at .elided) (start-1 (c .before) .args .at .cycle)
+allows c g = c .offset-allows .ensures (g .ready .timed, g .in-step)
 
 -- the owner is one of the sixteen
-small : (c : tie.Else2) → start-2 c .args .at .owner < 16
-small c = ltb-true _ 16 (and-right (c .before .offset-allows .result) _ (not-not _ (c .if2 .left)))
+owner-is : (s : tie.Start) → Given s → s .args .at .owner % 16 ≡ s .args .at .owner
+owner-is s g = omega (arith, g .ready .class)
 
--- a request waits
-waits : (c : tie.Else3) → goesAt (bus-of (start-3 c)) < lengthOf (queues-of (start-3 c)) (start-3 c .args .at .owner)
+-- a request of what is read as the owner waits
+some-wait : (c : tie.Else3) → 0 < getD (start-3 c .args .lengths .now) (start-3 c .args .at .owner % 16) 0
+some-wait c = omega (arith, c .if3 .left)
+
+-- and so one of the owner's does
+waits : (c : tie.Else3) → Given (start-3 c) → goesAt (bus-of (start-3 c)) < lengthOf (queues-of (start-3 c)) (start-3 c .args .at .owner)
 unfolding goesAt lengthOf
-waits c = omega (arith, c .if3 .left)
+waits c g = rw (owner-is (start-3 c) g) at (some-wait c)
 
 -- the word read is that of the request that goes
-word-is : (c : tie.After-head-of) → c .head-of .result ≡ going (bus-of (start-head c))
+word-is : (c : tie.After-head-of) → Given (start-head c) → c .head-of .result ≡ going (bus-of (start-head c))
 unfolding going goesAt waitingAt headOf
-word-is c = c .head-of .ensures
+word-is c g =
+    let a = start-head c .args in
+    c .head-of .ensures ∙ ap (λ (k : ℕ). getD (a .slots .now) (place k (getD (a .heads .now) k 0) 0) 0) (owner-is (start-head c) g)
 
 -- and so it is an offer, and has a bank and a kind
 sound : (c : tie.After-head-of) → Given (start-head c) → SoundRequest (c .head-of .result)
-sound c g = subst SoundRequest (sym (word-is c)) (g .ready .sound (waits (c .before .before)))
+sound c g = subst SoundRequest (sym (word-is c g)) (g .ready .sound (waits (c .before .before) g))
 
 -- the gaps asked for are those of the request that goes
 gaps-are : (c : tie.After-gaps-met) → Given (start-gaps c) → gapsMet (start-gaps c .args .timing) (bus-of (start-gaps c) .flight) (going (bus-of (start-gaps c))) (start-gaps c .args .at .cycle) ≡ c .gaps-met .result
@@ -106,7 +113,7 @@ gaps-are c g =
     sym
     (c .gaps-met .ensures
     ∙ ap₂ met (bank-is ∙ c .before .before .before .bank-of .ensures) (kind-is ∙ c .before .kind-of .ensures)
-    ∙ ap (λ (w : ℕ). gapsMet (a .timing) (bus-of (start-gaps c) .flight) w (a .at .cycle)) (word-is head))
+    ∙ ap (λ (w : ℕ). gapsMet (a .timing) (bus-of (start-gaps c) .flight) w (a .at .cycle)) (word-is head g))
 
 -- ---- the outcomes, in the words of the contract
 
@@ -156,26 +163,30 @@ returns-2 c g =
     let test = c .before .before in
     let s = start-1 test in
     let b = bus-of s in
-    let out = sym (allows s g) ∙ sym (c .before .offset-allows .ensures) ∙ false-unless _ (λ e. not-both (and-both e (lt-ltb _ 16 (g .ready .class))) (not-true _ (c .if2 .taken))) in
+    let out = sym (allows (c .before) g) ∙ not-true _ (c .if2 .taken) in
     driven b _ (drive-nothing b (none-due test) (and-fails-left _ _ (and-fails-left (offsetAllows (s .args .timing) (s .args .at .elided) (s .args .at .cycle)) (ltb (goesAt b) (lengthOf (queues-of s) (s .args .at .owner))) out))) _ refl
 
 mul-if3 : tie.Need-mul-if3
-mul-if3 c = let l = small c in search needs
+mul-if3 c = search needs
 
 element-copy-out-if3 : tie.Need-element-copy-out-if3
-element-copy-out-if3 c = small c
+element-copy-out-if3 c = search needs
+
+-- no request of what is read as the owner waits
+none-wait : (c : tie.Then3) → getD (start-2 (c .before .before .before) .args .lengths .now) (start-2 (c .before .before .before) .args .at .owner % 16) 0 ≤ 0
+none-wait c = omega (arith, c .if3 .taken)
 
 returns-3 : tie.Need-returns-3
 unfolding commandNumber canActivate goesAt lengthOf
 returns-3 c g =
-    let test = c .before .before in
+    let test = c .before .before .before in
     let s = start-2 test in
     let b = bus-of s in
-    let out = le-ltb (goesAt b) (lengthOf (queues-of s) (s .args .at .owner)) (omega (arith, c .if3 .taken)) in
+    let out = le-ltb (goesAt b) (lengthOf (queues-of s) (s .args .at .owner)) (rw (owner-is s g) at (none-wait c)) in
     driven b _ (drive-nothing b (none-due (test .before .before)) (and-fails-left _ _ (and-fails-right (offsetAllows (s .args .timing) (s .args .at .elided) (s .args .at .cycle)) (ltb (goesAt b) (lengthOf (queues-of s) (s .args .at .owner))) out))) _ refl
 
 head-of-requires : tie.Need-head-of-requires
-head-of-requires c κs = small (c .before .before .before)
+head-of-requires c κs = search needs
 
 bank-of-requires : tie.Need-bank-of-requires
 bank-of-requires c κs = search needs
@@ -201,15 +212,12 @@ returns-4 c g =
     let s = start-gaps (c .before) in
     let b = bus-of s in
     let test = at-head (c .before) .before .before in
-    let none = none-due (test .before .before .before .before) in
+    let none = none-due (else1-of-else3 test) in
     let ready = offsetAllows (s .args .timing) (s .args .at .elided) (s .args .at .cycle) && ltb (goesAt b) (lengthOf (queues-of s) (s .args .at .owner)) in
     driven b _ (drive-nothing b none (and-fails-right ready (gapsMet (s .args .timing) (b .flight) (going b) (s .args .at .cycle)) (gaps-are (c .before) g ∙ not-true _ (c .if4 .taken)))) _ refl
 
 dequeue-requires : tie.Need-dequeue-requires
-unfolding goesAt lengthOf
-dequeue-requires c κs =
-    let test = at-head (c .before .before .before) .before .before in
-    (small (test .before .before), waits test)
+dequeue-requires c κs = (omega arith, some-wait (at-head (c .before .before .before) .before .before))
 
 activate-requires : tie.Need-activate-requires
 activate-requires c κs = search needs
@@ -226,16 +234,18 @@ returns-5 c g =
     let head = at-head gaps in
     let test = head .before .before in
     let can : canActivate b ≡ true =
-    and-both (and-both (allowed (test .before .before) g) (lt-ltb (goesAt b) (lengthOf (queues-of s) (a .at .owner)) (waits test))) (gaps-are gaps g ∙ not-not _ (go .if4 .left))
+    and-both (and-both (sym (allows (else2-of-else3 test .before) g) ∙ not-not _ (else2-of-else3 test .if2 .left)) (lt-ltb (goesAt b) (lengthOf (queues-of s) (a .at .owner)) (waits test g))) (gaps-are gaps g ∙ not-not _ (go .if4 .left))
     in
-    let e = drive-activate b (none-due (test .before .before .before .before)) can in
-    let word = word-is head in
+    let e = drive-activate b (none-due (else1-of-else3 test)) can in
+    let word = word-is head g in
+    let owner = owner-is s g in
+    let taken : ℕ → ℕ → Queues = λ k l. queuesOf (a .slots .now) (set (a .heads .now) k ((getD (a .heads .now) k 0 + 1) % 8)) (set (a .lengths .now) l (getD (a .lengths .now) l 0 - 1)) in
     let request = sound head g in
     let offer = subst (λ (w : ℕ). isOffer w ≡ true) word (request .offer) in
     let right = driven b _ e (record { command = going b; last = 0 }) (sym (word-back (going b) offer)) in
     record {
       command = word ∙ right .command;
-      queues-are = ap₂ (queuesOf (a .slots .now)) (removed .0) (removed .1) ∙ right .queues-are;
+      queues-are = ap₂ (queuesOf (a .slots .now)) (removed .0) (removed .1) ∙ ap₂ taken owner owner ∙ right .queues-are;
       flight-is = c .activate .ensures (g .ready .ticks-left, request .bank, request .kind)
           ∙ ap (λ (w : ℕ). activated (a .timing) (a .columns .now) (a .responses .now) (a .banks .now) w (a .at .cycle)) word
           ∙ right .flight-is;

@@ -181,7 +181,8 @@ class Refusals(StreakCase):
 
     def test_another_refusal(self):
         status, out, _ = self.compare(b"", "policy refused 2\n")
-        self.assertEqual((status, out.splitlines()[1]), (1, "this run differs: first in cycle 0, last in cycle 0; the model refuses the policy with 1, and the block refuses the policy with 2"))
+        told = "this run differs: first in cycle 0, last in cycle 0; the model refuses the policy with 1, and the block refuses the policy with 2"
+        self.assertEqual((status, out.splitlines()[1]), (1, told))
 
 
 class Forms(StreakCase):

@@ -287,7 +287,8 @@ def csv_of(rows):
 
 def junit_of(rows, suite):
     """JUnit's XML: a testcase for each folder. One without expected.txt that ran is reported as skipped, since nothing was checked."""
-    counts = {"tests": len(rows), "failures": sum(not row.passed and not is_error(row) for row in rows), "errors": sum(map(is_error, rows)), "skipped": sum(unchecked(row) for row in rows)}
+    errors = sum(map(is_error, rows))
+    counts = {"tests": len(rows), "failures": sum(not row.passed for row in rows) - errors, "errors": errors, "skipped": sum(map(unchecked, rows))}
     figures = {name: str(count) for name, count in counts.items()}
     figures["time"] = "%.3f" % sum(row.seconds for row in rows)
     root = ElementTree.Element("testsuites", figures)

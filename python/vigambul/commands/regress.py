@@ -52,8 +52,8 @@ def add(commands):
     command = commands.add_parser(
         "regress",
         help="many folders over all cores, each against its expected.txt",
-        description="Runs the proved program in each folder of a list and holds what it prints against the folder's expected.txt. A refusal that expected.txt expects is a pass; any "
-        "other fails, and so does a difference: exit status 1. A folder or file that is missing is told before anything runs: exit status 2.",
+        description="Runs the proved program in each folder of a list and holds what it prints against the folder's expected.txt. A refusal that expected.txt expects is a "
+        "pass; any other fails, and so does a difference: exit status 1. A folder or file that is missing is told before anything runs: exit status 2.",
         epilog="LIST is a file with a folder on each line, relative to the file (# begins a comment; *, ? and [..] are patterns), or a folder whose folders are taken.\n\n"
         "examples:\n  vig regress examples -j 2 --csv rows.csv\n  vig regress nightly.txt --part 3/16 --junit part-3.xml",
     )

@@ -70,7 +70,8 @@ def how_to_begin(path):
     vig, folder = launcher(), typed(EXAMPLE)
     lines = ["There is no ledger yet (%s): no log of a block was compared with the model." % path, "To begin, from a policy in text to a picture:", ""]
     lines += ["    " + command.format(vig=vig, folder=folder) for command in BEGIN]
-    lines += ["", "For a policy of your own, copy that folder and change policy.toml and traffic.toml in it.", "Then hold a recorded log of your block against the model, and the streak begins:", ""]
+    lines += ["", "For a policy of your own, copy that folder and change policy.toml and traffic.toml in it."]
+    lines += ["Then hold a recorded log of your block against the model, and the streak begins:", ""]
     lines += ["    %s streak FOLDER BLOCK.log" % vig, "", "%s --help lists the commands, and %s COMMAND --help has an example of each." % (vig, vig)]
     return "\n".join(lines) + "\n"
 
@@ -78,8 +79,10 @@ def how_to_begin(path):
 def screen(entries, path):
     """The streak, what it was counted on, when the block last differed and where."""
     streak = ledger.streak(entries)
-    lines = [big(streak), "", "  %s %s" % (counted(streak, "cycle", form=","), "since the block last differed from the model" if differed(entries) else "compared, and no difference so far"), ""]
-    lines += ["  %-14s %s" % pair for pair in [*policies(entries, path), ("last differed", where_differed(entries)), ("ledger", ledger_words(entries, path))]]
+    what = "since the block last differed from the model" if differed(entries) else "compared, and no difference so far"
+    lines = [big(streak), "", "  %s %s" % (counted(streak, "cycle", form=","), what), ""]
+    rows = [*policies(entries, path), ("last differed", where_differed(entries)), ("ledger", ledger_words(entries, path))]
+    lines += ["  %-14s %s" % row for row in rows]
     return "\n".join(lines) + "\n"
 
 

@@ -31,7 +31,8 @@ def run(arguments):
     entry = entry_of(arguments, comparison, path)
     entries = [*known, entry] if arguments.dry_run else ledger.append(path, entry)
     tell(comparison, entries)
-    print("this run: %s; %s" % (counted(comparison.cycles, "cycle"), "the ledger is left as it is" if arguments.dry_run else "entry %d of %s" % (len(entries), path)), file=sys.stderr)
+    entered = "the ledger is left as it is" if arguments.dry_run else "entry %d of %s" % (len(entries), path)
+    print("this run: %s; %s" % (counted(comparison.cycles, "cycle"), entered), file=sys.stderr)
     return 1 if comparison.differs else 0
 
 
@@ -57,6 +58,7 @@ def add(commands):
     )
     command.add_argument("folder", metavar="FOLDER", help="a folder with policy.bin and trace.bin")
     command.add_argument("log", metavar="BLOCK.log", help="what was recorded of the block under that policy and trace")
-    command.add_argument("--ledger", metavar="F", default=argparse.SUPPRESS, help="the ledger (%s in the current folder, if not given); it is begun where there is none" % ledger.DEFAULT)
+    ledger_help = "the ledger (%s in the current folder, if not given); it is begun where there is none" % ledger.DEFAULT
+    command.add_argument("--ledger", metavar="F", default=argparse.SUPPRESS, help=ledger_help)
     command.add_argument("--dry-run", action="store_true", help="count as if this run were entered, but leave the ledger as it is")
     command.set_defaults(run=run)

@@ -9,6 +9,52 @@
 #include <stddef.h>
 #include <stdint.h>
 
+/* A word is an offer in a trace, or a command or an answer in a log. Bit 31 is set; bit 30 is set for a column command alone; the class is in bits 24 to 28, the kind in 20 and
+ * 21 (0 read, 1 write), the bank in 16 to 19 (0 to 7), the tag in 0 to 15, and the other bits are 0. A trace number of 0 is a tick; a command or an answer of 0 is none. A number that
+ * is too large for its field loses its upper bits: an offer of class 32 is one of class 0. Each macro's value is a uint32_t, and each argument is evaluated once.
+ */
+#define VIGAMBUL_TICK UINT32_C(0)
+#define VIGAMBUL_OFFER(class_, kind, bank, tag) \
+    (UINT32_C(0x80000000) | (((uint32_t)(class_) & UINT32_C(31)) << 24) | (((uint32_t)(kind) & UINT32_C(3)) << 20) | \
+     (((uint32_t)(bank) & UINT32_C(15)) << 16) | ((uint32_t)(tag) & UINT32_C(0xFFFF)))
+#define VIGAMBUL_CLASS(word) (((uint32_t)(word) >> 24) & UINT32_C(31))
+#define VIGAMBUL_KIND(word) (((uint32_t)(word) >> 20) & UINT32_C(3))
+#define VIGAMBUL_BANK(word) (((uint32_t)(word) >> 16) & UINT32_C(15))
+#define VIGAMBUL_TAG(word) ((uint32_t)(word) & UINT32_C(0xFFFF))
+
+/* Of a command's word: 1 if it is a column command, 0 if it is an activate or none. */
+#define VIGAMBUL_IS_COLUMN(word) (((uint32_t)(word) >> 30) & UINT32_C(1))
+
+/* Of a turn number, the fourth of a line: 1 if a turn starts there; then its owner, and 1 if the owner's dead time is dropped. (Of a turn number of 0 there is no owner. In an extract
+ * 512 is a turn whose owner the class may not see: VIGAMBUL_TURN_HIDDEN.)
+ */
+#define VIGAMBUL_TURN_HIDDEN UINT32_C(512)
+#define VIGAMBUL_TURN_STARTS(turn) ((uint32_t)((uint32_t)(turn) != UINT32_C(0)))
+#define VIGAMBUL_TURN_OWNER(turn) ((((uint32_t)(turn)) & UINT32_C(255)) - UINT32_C(1))
+#define VIGAMBUL_TURN_DROPPED(turn) (((uint32_t)(turn) >> 8) & UINT32_C(1))
+
+/* What is turned down, by document 01's numbers. */
+enum vigambul_refusal {
+    VIGAMBUL_TAKEN = 0,
+    VIGAMBUL_REFUSED_CONTENTS = 1,    /* file under 17 or above 65,535 bytes, or contents not as document 01 has them, lengths apart */
+    VIGAMBUL_REFUSED_LENGTH = 2,      /* n not 1 to 16, or a body's length does not fit it */
+    VIGAMBUL_REFUSED_ROW = 3,         /* a row has a bit at n or above, or lacks its own */
+    VIGAMBUL_REFUSED_BOTH_WAYS = 4,   /* two classes flow to each other */
+    VIGAMBUL_REFUSED_TRANSITIVE = 5,  /* not transitive */
+    VIGAMBUL_REFUSED_LEAST = 6,       /* no least class */
+    VIGAMBUL_REFUSED_TURNS = 7,       /* E or the sum of minimums out of range */
+    VIGAMBUL_REFUSED_TIMING = 8,      /* a timing byte out of range */
+    VIGAMBUL_REFUSED_CLASS = 9,       /* class not below n */
+    VIGAMBUL_REFUSED_BANK_KIND = 10,  /* bank above 7 or kind above 1 */
+    VIGAMBUL_REFUSED_QUEUE = 11,      /* 8 requests of that class wait */
+    VIGAMBUL_REFUSED_LAST_TICK = 12,  /* a tick after 16,777,215 ticks */
+    VIGAMBUL_REFUSED_RANGE = 13,      /* a state or policy handed in has numbers out of range (none of these functions is handed one) */
+    VIGAMBUL_REFUSED_MALFORMED = 14,  /* a trace number of neither form */
+    VIGAMBUL_REFUSED_LOG = 15,        /* log shorter than 4 times the trace */
+    VIGAMBUL_REFUSED_ROOM = 16,       /* extract shorter than what is kept */
+    VIGAMBUL_REFUSED_LOG_LENGTH = 17  /* log to extract not 4 times the trace */
+};
+
 #ifdef __cplusplus
 extern "C" {
 #endif
@@ -29,7 +75,7 @@ uint32_t vigambul_run(const uint8_t *policy, size_t policy_len,
  *
  * Answers how many numbers it wrote, and puts into status 0; or 1 to 8, the number that refuses the file; or 9, if class_ is none of the policy's classes; or 17, if
  * log_len is not 4 times trace_len; or 16, if out_len is less than what is kept. Where status is anything but 0, the count is 0 and nothing is written. Numbers of out
- * past the count stay as they are.
+ * past the count stay as they are. 4 times trace_len is always enough for out.
  */
 size_t vigambul_extract(const uint8_t *policy, size_t policy_len, uint32_t class_,
                         const uint32_t *trace, size_t trace_len,

@@ -19,9 +19,9 @@ usage:
   vigambul-model leaks COUNT      search COUNT pairs of lists for leaks
   vigambul-model --help           print this text
 
-A missing file is read as empty. The exit status is 0 if the command did its
-work (a refusal that is printed is part of it), 1 if a file cannot be read or
-written or a leak is found, and 2 if the arguments are wrong.
+The exit status is 0 if the command did its work (a refusal that is printed is
+part of it), 1 if a file cannot be read or written or a leak is found, and 2 if
+the arguments are wrong or DIR or a file of it that is to be read is missing.
 ";
 
 /// What the arguments ask for.
@@ -44,10 +44,28 @@ fn main() -> ExitCode {
     };
     match perform(command) {
         Ok(code) => code,
-        Err(message) => {
-            eprintln!("vigambul-model: {message}");
-            ExitCode::FAILURE
+        Err(trouble) => {
+            eprintln!("vigambul-model: {}", trouble.message);
+            ExitCode::from(trouble.status)
         }
+    }
+}
+
+/// Why a command did not do its work, and the exit status that says so.
+struct Trouble {
+    status: u8,
+    message: String,
+}
+
+impl Trouble {
+    fn missing(message: String) -> Trouble {
+        Trouble { status: 2, message }
+    }
+}
+
+impl From<String> for Trouble {
+    fn from(message: String) -> Trouble {
+        Trouble { status: 1, message }
     }
 }
 
@@ -86,16 +104,16 @@ fn number<T: std::str::FromStr>(what: &str, text: &str) -> Result<T, String> {
         .map_err(|_| format!("{what} must be a whole number, not {text}"))
 }
 
-fn perform(command: Command) -> Result<ExitCode, String> {
+fn perform(command: Command) -> Result<ExitCode, Trouble> {
     match command {
-        Command::Help => print(USAGE.as_bytes()),
+        Command::Help => Ok(print(USAGE.as_bytes())?),
         Command::Run { dir } => {
             let (policy, trace) = read_folder(&dir)?;
-            print(&program::output(&policy, &trace))
+            Ok(print(&program::output(&policy, &trace))?)
         }
         Command::Extract { class, dir } => {
             let (policy, trace) = read_folder(&dir)?;
-            print(&program::extract_output(class, &policy, &trace))
+            Ok(print(&program::extract_output(class, &policy, &trace))?)
         }
         Command::Generate { seed, dir } => {
             let folder = generate::folder(seed);
@@ -116,18 +134,22 @@ fn perform(command: Command) -> Result<ExitCode, String> {
     }
 }
 
-fn read_folder(dir: &Path) -> Result<(Vec<u8>, Vec<u8>), String> {
+/// Document 01's program reads a missing file as empty. Here the folder is named by the user, so what
+/// is missing is more likely a slip, and is told.
+fn read_folder(dir: &Path) -> Result<(Vec<u8>, Vec<u8>), Trouble> {
+    if !dir.exists() {
+        let message = format!("there is no folder {}", dir.display());
+        return Err(Trouble::missing(message));
+    }
     Ok((read(dir, "policy.bin")?, read(dir, "trace.bin")?))
 }
 
-/// "A missing file is read as empty." Any other trouble is not passed over.
-fn read(dir: &Path, name: &str) -> Result<Vec<u8>, String> {
+fn read(dir: &Path, name: &str) -> Result<Vec<u8>, Trouble> {
     let path = dir.join(name);
-    match fs::read(&path) {
-        Ok(bytes) => Ok(bytes),
-        Err(error) if error.kind() == ErrorKind::NotFound => Ok(Vec::new()),
-        Err(error) => Err(format!("cannot read {}: {error}", path.display())),
-    }
+    fs::read(&path).map_err(|error| match error.kind() {
+        ErrorKind::NotFound => Trouble::missing(format!("there is no file {}", path.display())),
+        _ => Trouble::from(format!("cannot read {}: {error}", path.display())),
+    })
 }
 
 fn write(dir: &Path, name: &str, bytes: &[u8]) -> Result<(), String> {

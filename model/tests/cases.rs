@@ -1,5 +1,5 @@
-//! The proved test program `cases`: what it prints is stored beside it, and each stored line is held
-//! against the model's own answer for the case that the line names.
+//! The proved test programs `cases_policies` and `cases_calls`: what each prints is stored beside it,
+//! and each stored line is held against the model's own answer for the case that the line names.
 
 mod common;
 
@@ -788,15 +788,26 @@ fn extracts() -> String {
     .concat()
 }
 
+/// Holds the stored output of a proved program against the model's answers, line by line and whole,
+/// and counts its lines.
+fn compare(program: &str, answers: &str) -> usize {
+    let stored = Path::new(env!("CARGO_MANIFEST_DIR")).join(format!("../crates/{program}/stdout"));
+    let stored = fs::read_to_string(stored).expect("a program's stored output");
+    for (place, (proved, model)) in stored.lines().zip(answers.lines()).enumerate() {
+        assert_eq!(proved, model, "{program}, line {}", place + 1);
+    }
+    assert_eq!(stored, answers, "{program}");
+    stored.lines().count()
+}
+
 #[test]
 fn the_proved_program_answers_as_the_model_does() {
-    let stored = Path::new(env!("CARGO_MANIFEST_DIR")).join("../crates/cases/stdout");
-    let stored = fs::read_to_string(stored).expect("the stored output of cases");
-    let answers = files() + &calls() + &runs() + &extracts() + &stored_policies();
-    for (place, (proved, model)) in stored.lines().zip(answers.lines()).enumerate() {
-        assert_eq!(proved, model, "line {}", place + 1);
-    }
-    assert_eq!(stored, answers);
+    let policies = compare(
+        "cases_policies",
+        &(files() + &extracts() + &stored_policies()),
+    );
+    let calls = compare("cases_calls", &(calls() + &runs()));
+    assert_eq!((policies, calls), (784, 458));
 }
 
 #[test]

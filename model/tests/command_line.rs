@@ -80,25 +80,55 @@ fn run_prints_document_01s_log() {
     assert_eq!(printed(&["run"], &folder), PRINTED_LOG);
 }
 
+/// What the program prints for a missing file is what it prints for an empty one.
 #[test]
 fn a_missing_policy_file_is_read_as_empty() {
-    let folder = Folder::new("no-policy").with("trace.bin", &trace_bytes(&PRINTED_TRACE));
+    let trace = trace_bytes(&PRINTED_TRACE);
+    assert_eq!(text(&program::output(&[], &trace)), "policy refused 1\n");
+    assert_eq!(text(&program::output(&[], &[])), "policy refused 1\n");
+    assert_eq!(
+        text(&program::extract_output(0, &[], &trace)),
+        "policy refused 1\n"
+    );
+    let folder = Folder::new("empty-policy")
+        .with("policy.bin", &[])
+        .with("trace.bin", &trace);
     assert_eq!(printed(&["run"], &folder), "policy refused 1\n");
     assert_eq!(printed(&["extract", "0"], &folder), "policy refused 1\n");
 }
 
 #[test]
 fn a_missing_trace_file_is_read_as_empty() {
-    let folder = Folder::new("no-trace").with("policy.bin", &PRINTED_POLICY);
-    assert_eq!(printed(&["run"], &folder), "status command answer turn\n");
+    let header = "status command answer turn\n";
+    assert_eq!(text(&program::output(&PRINTED_POLICY, &[])), header);
+    let folder = Folder::new("empty-trace")
+        .with("policy.bin", &PRINTED_POLICY)
+        .with("trace.bin", &[]);
+    assert_eq!(printed(&["run"], &folder), header);
 }
 
+/// The command line itself refuses what is missing, and names it.
 #[test]
-fn a_missing_folder_is_read_as_two_empty_files() {
-    let folder = Folder::new("no-folder");
-    let missing = folder.path().join("missing");
-    let output = call(&["run"], Some(&missing));
-    assert_eq!(text(&output.stdout), "policy refused 1\n");
+fn a_missing_folder_or_file_is_told() {
+    let none = Folder::new("no-files");
+    let no_policy = Folder::new("no-policy").with("trace.bin", &trace_bytes(&PRINTED_TRACE));
+    let no_trace = Folder::new("no-trace").with("policy.bin", &PRINTED_POLICY);
+    let missing = none.path().join("missing");
+    let policy_of = |folder: &Folder| folder.path().join("policy.bin");
+    for (folder, words, what) in [
+        (missing.as_path(), "folder", missing.clone()),
+        (none.path(), "file", policy_of(&none)),
+        (no_policy.path(), "file", policy_of(&no_policy)),
+        (no_trace.path(), "file", no_trace.path().join("trace.bin")),
+    ] {
+        for command in [&["run"][..], &["extract", "0"]] {
+            let output = call(command, Some(folder));
+            assert_eq!(output.status.code(), Some(2), "{command:?}");
+            assert_eq!(text(&output.stdout), "");
+            let told = format!("vigambul-model: there is no {words} {}\n", what.display());
+            assert_eq!(text(&output.stderr), told, "{command:?}");
+        }
+    }
 }
 
 #[test]

@@ -4,6 +4,7 @@
 ghost use Prim.Native.Nat.{_*_, _≤_};
 ghost use lib.ListN.{length};
 ghost use Rattle.io.specs.Counts.{Counts};
+use libc::STDERR_FILENO;
 use libc::STDOUT_FILENO;
 use policy::Policy;
 use state::State;
@@ -165,7 +166,18 @@ fn accepted(p: Policy) {
     libc::close(fd);
 }
 
+// The program takes no arguments. Where it is given some it says so, and goes on without them.
+fn arguments() {
+    if 1 < os::arg_count() {
+        io::write_all(
+            STDERR_FILENO,
+            b"vigambul takes no arguments: it reads policy.bin and trace.bin in the folder it runs in\n",
+        );
+    }
+}
+
 fn main() {
+    arguments();
     let mut buffer = io::large_buffer();
     let filled = policy_file(&mut buffer);
     if filled.failed {

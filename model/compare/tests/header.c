@@ -1,4 +1,5 @@
-/* include/vigambul.h as a caller has it, in C and in C++: each function is called, and slices of no elements have a null pointer.
+/* include/vigambul.h as a caller has it, in C and in C++: each function is called, slices of no elements have a null pointer, and each macro and number is held against what
+ * the library takes and writes.
  *
  * It says what is not as it must be, and ends with 0 if all is.
  */
@@ -79,9 +80,118 @@ static void extracts(void)
     expect(vigambul_extract(NULL, 0, 0, NULL, 0, NULL, 0, NULL, 0, &status) == 0 && status == 1, "nothing at all to extract");
 }
 
+/* The numbers of the refusals, each of a call that gets it; 12 is a tick too far to run here, and 13 is of states that no caller hands in. */
+static void refusals(void)
+{
+    /* A byte of the policy, what it becomes, and the number. */
+    static const uint32_t changes[][3] = {
+        {0, 4, VIGAMBUL_REFUSED_CONTENTS}, {16, 17, VIGAMBUL_REFUSED_LENGTH}, {17, 2, VIGAMBUL_REFUSED_ROW},
+        {19, 3, VIGAMBUL_REFUSED_BOTH_WAYS}, {17, 1, VIGAMBUL_REFUSED_LEAST}, {21, 0, VIGAMBUL_REFUSED_TURNS},
+        {25, 1, VIGAMBUL_REFUSED_TIMING}, {33, 2, VIGAMBUL_TAKEN}};
+    static const uint8_t not_transitive[] = {
+        3, 1, 16, 0, 7, 0, 2, 23, 0, 4, 0, 3, 27, 0, 10, 0, 3, 3, 0, 6, 0, 4, 0, 3, 0, 1, 1, 4, 2, 2, 2, 2, 2, 2, 2, 1, 2};
+    static const uint32_t trace[] = {
+        VIGAMBUL_OFFER(2, 0, 0, 1), VIGAMBUL_OFFER(0, 0, 8, 2), VIGAMBUL_OFFER(0, 2, 0, 3), 1, VIGAMBUL_OFFER(1, 1, 7, 4)};
+    static const uint32_t statuses[] = {
+        VIGAMBUL_REFUSED_CLASS, VIGAMBUL_REFUSED_BANK_KIND, VIGAMBUL_REFUSED_BANK_KIND, VIGAMBUL_REFUSED_MALFORMED, VIGAMBUL_TAKEN};
+    uint32_t log[36];
+    uint32_t offers[9];
+    uint32_t status = 0;
+    size_t i;
+    for (i = 0; i < COUNT(changes); i++) {
+        uint8_t policy[sizeof POLICY];
+        memcpy(policy, POLICY, sizeof POLICY);
+        policy[changes[i][0]] = (uint8_t)changes[i][1];
+        expect(vigambul_run(policy, COUNT(policy), NULL, 0, NULL, 0) == changes[i][2], "the number of a refused file");
+    }
+    expect(vigambul_run(not_transitive, COUNT(not_transitive), NULL, 0, NULL, 0) == VIGAMBUL_REFUSED_TRANSITIVE, "a file that is not transitive");
+
+    expect(vigambul_run(POLICY, COUNT(POLICY), trace, COUNT(trace), log, COUNT(log)) == VIGAMBUL_TAKEN, "a run with refused lines");
+    for (i = 0; i < COUNT(trace); i++)
+        expect(log[4 * i] == statuses[i], "the number of a refused line");
+    for (i = 0; i < COUNT(offers); i++)
+        offers[i] = VIGAMBUL_OFFER(0, 0, 0, i);
+    expect(vigambul_run(POLICY, COUNT(POLICY), offers, COUNT(offers), log, COUNT(log)) == VIGAMBUL_TAKEN, "nine offers");
+    expect(log[4 * 7] == VIGAMBUL_TAKEN && log[4 * 8] == VIGAMBUL_REFUSED_QUEUE, "the ninth of a class");
+    expect(vigambul_run(POLICY, COUNT(POLICY), offers, COUNT(offers), log, COUNT(log) - 1) == VIGAMBUL_REFUSED_LOG, "the number of a short log");
+
+    expect(vigambul_extract(POLICY, COUNT(POLICY), 0, TRACE, COUNT(TRACE), LOG, COUNT(LOG), log, COUNT(LOG) - 1, &status) == 0 && status == VIGAMBUL_REFUSED_ROOM, "the number of too little room");
+    expect(vigambul_extract(POLICY, COUNT(POLICY), 0, TRACE, COUNT(TRACE), LOG, COUNT(LOG) - 1, log, COUNT(log), &status) == 0 && status == VIGAMBUL_REFUSED_LOG_LENGTH, "the number of a log to extract");
+    expect(VIGAMBUL_REFUSED_LAST_TICK == 12 && VIGAMBUL_REFUSED_RANGE == 13, "the numbers that no call here gets");
+}
+
+/* The words and turn numbers of a run: eight requests of class 0 wait, so its owners are 0, 1 and 1, with the dead time dropped, dropped and kept (document 01's worked turn b). */
+static void words(void)
+{
+    enum { OFFERS = 9, TICKS = 12, COLUMN = 0x40000000 };
+    static const uint32_t owners[] = {0, 1, 1};
+    static const uint32_t dropped[] = {1, 1, 0};
+    uint32_t trace[OFFERS + TICKS];
+    uint32_t log[4 * COUNT(trace)];
+    uint32_t out[4 * COUNT(trace)];
+    uint32_t status = UNWRITTEN;
+    uint32_t seen[4] = {0, 0, 0, 0};
+    const uint32_t *next = trace;
+    size_t i, kept, turns = 0;
+    int low = 0xBE00;
+
+    expect(VIGAMBUL_OFFER(0, 0, 1, 7) == TRACE[0] && VIGAMBUL_TICK == TRACE[1], "document 01's trace");
+    for (i = 0; i < 8; i++)
+        trace[i] = VIGAMBUL_OFFER(0, i % 2, i, 0x100 + i);
+    /* Any expression may stand for an argument. */
+    trace[8] = VIGAMBUL_OFFER(low ? 1 : 2, 0 | 1, 2 + 3, low | 0xEF);
+    expect(trace[8] == 0x8115BEEF, "an offer's word");
+    expect(VIGAMBUL_OFFER(32 + 31, 4 + 3, 16 + 15, 0x10000 + 9) == 0x9F3F0009, "fields that are too large");
+    for (i = OFFERS; i < COUNT(trace); i++)
+        trace[i] = VIGAMBUL_TICK;
+    expect(VIGAMBUL_TAG(*next++) == 0x100 && next == trace + 1, "an argument that is evaluated once");
+
+    expect(vigambul_run(POLICY, COUNT(POLICY), trace, COUNT(trace), log, COUNT(log)) == VIGAMBUL_TAKEN, "a run of words");
+    for (i = OFFERS; i < COUNT(trace); i++) {
+        const uint32_t command = log[4 * i + 1], answer = log[4 * i + 2], turn = log[4 * i + 3];
+        const uint32_t word = command != 0 ? command : answer;
+        if (word != 0) {
+            const uint32_t again = VIGAMBUL_OFFER(VIGAMBUL_CLASS(word), VIGAMBUL_KIND(word), VIGAMBUL_BANK(word), VIGAMBUL_TAG(word));
+            size_t offer = 0;
+            expect((again | (VIGAMBUL_IS_COLUMN(word) != 0 ? (uint32_t)COLUMN : 0)) == word, "a word of its parts");
+            while (offer < OFFERS && trace[offer] != again)
+                offer++;
+            expect(offer < OFFERS, "a word of no offer");
+            expect(VIGAMBUL_CLASS(word) == (offer == 8 ? 1U : 0U), "a word's class");
+            expect(VIGAMBUL_KIND(word) == (offer == 8 ? 1U : (uint32_t)(offer % 2)), "a word's kind");
+            expect(VIGAMBUL_BANK(word) == (offer == 8 ? 5U : (uint32_t)offer), "a word's bank");
+            expect(VIGAMBUL_TAG(word) == (offer == 8 ? 0xBEEFU : 0x100U + (uint32_t)offer), "a word's tag");
+        }
+        if (command != 0)
+            seen[VIGAMBUL_IS_COLUMN(command)]++;
+        if (answer != 0)
+            seen[2]++;
+        expect(VIGAMBUL_IS_COLUMN(answer) == 0, "an answer that is a column command");
+        expect(VIGAMBUL_TURN_STARTS(turn) == ((i - OFFERS) % 4 == 0 ? 1U : 0U), "a turn's start");
+        if (VIGAMBUL_TURN_STARTS(turn) && turns < COUNT(owners)) {
+            expect(VIGAMBUL_TURN_OWNER(turn) == owners[turns], "a turn's owner");
+            expect(VIGAMBUL_TURN_DROPPED(turn) == dropped[turns], "a turn's dead time");
+            expect(turn == 1 + VIGAMBUL_TURN_OWNER(turn) + 256 * VIGAMBUL_TURN_DROPPED(turn), "a turn number of its parts");
+            turns++;
+        }
+    }
+    expect(turns == 3 && seen[0] > 1 && seen[1] > 1 && seen[2] > 1, "turns, activates, column commands and answers");
+
+    /* What class 0 may see: not the offer of class 1, nor that class 1 owns a turn. 4 times the trace is room enough. */
+    kept = vigambul_extract(POLICY, COUNT(POLICY), 0, trace, COUNT(trace), log, COUNT(log), out, 4 * COUNT(trace), &status);
+    expect(status == VIGAMBUL_TAKEN && kept == 4 * (COUNT(trace) - 1), "an extract of words");
+    for (i = 0; i < TICKS; i++) {
+        const uint32_t turn = out[4 * (OFFERS - 1 + i) + 3];
+        if (i == 4 || i == 8)
+            expect(turn == VIGAMBUL_TURN_HIDDEN && VIGAMBUL_TURN_STARTS(turn) == 1, "a turn that is hidden");
+    }
+}
+
 int main(void)
 {
     runs();
     extracts();
+    refusals();
+    words();
     return failures == 0 ? 0 : 1;
 }

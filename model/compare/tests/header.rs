@@ -12,6 +12,7 @@ use common::*;
 use vigambul_compare::built;
 
 const HEADER_TEXT: &str = include_str!("../../../include/vigambul.h");
+const CALLER_TEXT: &str = include_str!("header.c");
 const RUST_TEXT: &str = include_str!("../src/library.rs");
 
 /// A file of this package.
@@ -54,7 +55,7 @@ fn the_library_answers_a_caller_from_cpp() {
     call_from("g++", ["-std=c++11", "-x", "c++"]);
 }
 
-/// The functions that the header declares, without comments and directives.
+/// The functions that the header declares, without comments, directives and numbers.
 fn declared_in_c() -> Vec<String> {
     let mut text = String::new();
     let mut rest = HEADER_TEXT;
@@ -63,11 +64,15 @@ fn declared_in_c() -> Vec<String> {
         rest = comment.split_once("*/").expect("a comment's end").1;
     }
     text += rest;
+    // A macro may go on in the next line.
+    let text = text.replace("\\\n", " ");
     let outside = |line: &&str| !line.starts_with('#') && !["extern \"C\" {", "}"].contains(line);
     let lines: Vec<&str> = text.lines().filter(outside).collect();
-    let functions = lines.join(" ");
-    let functions = functions.split(';').map(in_one_line);
-    functions.filter(|function| !function.is_empty()).collect()
+    let declared = lines.join(" ");
+    let declared = declared.split(';').map(in_one_line);
+    declared
+        .filter(|one| !one.is_empty() && !one.starts_with("enum "))
+        .collect()
 }
 
 /// Every stretch of white space as one space.
@@ -115,6 +120,22 @@ fn type_in_c(of: &str) -> &'static str {
         "*const u32" => "const uint32_t *",
         "*mut u32" => "uint32_t *",
         _ => panic!("a type that the header does not use: {of}"),
+    }
+}
+
+/// The macros and the numbers that the header defines.
+fn defined_in_c() -> BTreeSet<&'static str> {
+    let words = HEADER_TEXT.split(|c: char| !(c.is_ascii_alphanumeric() || c == '_'));
+    let names = words.filter(|word| word.starts_with("VIGAMBUL_") && *word != "VIGAMBUL_H");
+    names.collect()
+}
+
+#[test]
+fn every_macro_and_number_of_the_header_is_tried() {
+    let defined = defined_in_c();
+    assert_eq!(defined.len(), 29, "{defined:?}");
+    for name in defined {
+        assert!(CALLER_TEXT.contains(name), "{name}");
     }
 }
 

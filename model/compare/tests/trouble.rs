@@ -124,6 +124,28 @@ fn a_policy_that_cannot_be_read_is_told() {
 }
 
 #[test]
+fn arguments_are_told_and_change_nothing() {
+    const WORDS: &str =
+        "vigambul takes no arguments: it reads policy.bin and trace.bin in the folder it runs in\n";
+    let accepted = Folder::new("arguments");
+    accepted.put_both(&diamond(), &[0; 16]);
+    let refused = Folder::new("arguments-refused");
+    for folder in [&accepted, &refused] {
+        let printed_with = |arguments: &[&str], expected: &str| {
+            let mut command = command_in(built::program(), folder);
+            command.args(arguments).stdout(Stdio::piped());
+            says(command, expected)
+        };
+        let printed = printed_with(&[], "");
+        assert!(!printed.is_empty());
+        let folder_of_another = accepted.path().to_str().expect("a name that is text");
+        for arguments in [&["--help"][..], &[""], &[folder_of_another], &["a", "b"]] {
+            assert_eq!(printed_with(arguments, WORDS), printed, "{arguments:?}");
+        }
+    }
+}
+
+#[test]
 fn a_trace_is_not_asked_for_where_the_policy_is_refused() {
     let folder = Folder::new("refused-and-folder");
     fs::create_dir_all(folder.path().join("trace.bin")).expect("a folder in place of the trace");

@@ -1,0 +1,95 @@
+// The cases that document 01 says are to be run, of what goes by a policy alone: policy files, stored policies, and extracts of logs. They stand in the script, the file
+// stdin, a case to a line; each prints a line or more with its name and the answer. The lines are held against the stored output, and the Rust model's tests hold the
+// stored output against the model's own answers.
+
+ghost use Prim.Native.Nat.{_≤_};
+use libc::STDIN_FILENO;
+use libc::STDOUT_FILENO;
+use policy::Policy;
+use script::Line;
+use script::List;
+
+mod extracts;
+mod policies;
+
+// What a case goes by: the numbers of the policy file, of the trace, of the log and of its own line, and its policy.
+pub(crate) struct Case {
+    pub file: List,
+    pub trace: List,
+    pub log: List,
+    pub own: List,
+    pub policy: Policy,
+}
+
+pub(crate) fn words(text: &[u8]) {
+    io::write_all(STDOUT_FILENO, text);
+}
+
+pub(crate) fn least(a: usize, b: usize) -> usize
+    ensures { λ r. ⌜ (r ≤ a) × (r ≤ b) ⌝ }
+{
+    if a < b { a } else { b }
+}
+
+// What the case of a line goes by. The changes of its policy stand after its own numbers.
+fn laid_out(text: &[u8], l: Line) -> Case {
+    let own = script::numbers(text, l.numbers);
+    let file = script::numbers(text, l.file);
+    let reading = policies::reading(file);
+    let from = if l.letter == b'x' { 4 } else { 0 };
+    Case {
+        file,
+        trace: script::numbers(text, l.trace),
+        log: script::numbers(text, l.log),
+        own,
+        policy: policies::changed(reading.policy, own, from),
+    }
+}
+
+fn answer(text: &[u8], l: Line, c: Case) {
+    let letter = l.letter;
+    match letter {
+        b'r' => policies::read(c.file),
+        b'w' => policies::with(c),
+        b'c' => policies::cut(c),
+        b'i' => policies::in_range(c),
+        b'x' => extracts::sized(c),
+        b'g' => extracts::seen(text, l, c, c.log),
+        b'm' => extracts::seen_of_run(text, l, c),
+        _ => {}
+    }
+}
+
+// The case of a line. A comment, an empty line and what later lines go by are none.
+fn one_line(text: &[u8], l: Line) {
+    if l.letter < b'a' {
+        return;
+    }
+    let c = laid_out(text, l);
+    script::name(text, l, c.own);
+    words(b":");
+    answer(text, l, c);
+}
+
+fn every_line(text: &[u8]) {
+    let mut l = Line {
+        letter: 0,
+        name: 0,
+        numbers: 0,
+        next: 0,
+        file: 0,
+        state: 0,
+        trace: 0,
+        log: 0,
+    };
+    while l.next < text.len() {
+        l = script::next_line(text, l);
+        one_line(text, l);
+    }
+}
+
+fn main() {
+    let mut text = io::large_buffer();
+    let count = io::read_full(STDIN_FILENO, &mut text);
+    every_line(&text[..count]);
+}

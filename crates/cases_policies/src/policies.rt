@@ -1,0 +1,98 @@
+// Policy files: what reading one answers. Stored policies: those that files give, with numbers of them changed, and whether they are in range.
+
+use super::Case;
+use super::least;
+use super::words;
+use file::Reading;
+use policy::Policy;
+use script::List;
+
+// What reading a list's numbers as the bytes of a file answers.
+pub(crate) fn reading(file: List) -> Reading {
+    let mut bytes = [0u8; 160];
+    let mut at = 0;
+    while at < 160 {
+        bytes[at] = (file.at[at] % 256) as u8;
+        at += 1;
+    }
+    let count = least(file.count, 160);
+    file::read(&bytes[0..count])
+}
+
+// The answer of reading a file, and the line's end.
+pub(crate) fn read(file: List) {
+    let made = reading(file);
+    script::spaced(made.status as usize);
+    words(b"\n");
+}
+
+// The file with one byte changed: PLACE BYTE.
+pub(crate) fn with(c: Case) {
+    let own = c.own;
+    let place = own.at[0] as usize;
+    let mut file = c.file;
+    if place < 160 {
+        file.at[place] = own.at[1];
+    }
+    read(file);
+}
+
+// The file cut to a length: LENGTH.
+pub(crate) fn cut(c: Case) {
+    let own = c.own;
+    let mut file = c.file;
+    file.count = own.at[0] as usize;
+    read(file);
+}
+
+// A policy with one number changed. Number of classes, Row, Epoch, Minimum, Cover, Turns (a class's cap).
+fn with_number(p: Policy, field: u8, place: u32, to: u32) -> Policy {
+    let at = place as usize;
+    let mut changed = p;
+    if 16 <= at {
+        return changed;
+    }
+    match field {
+        b'N' => {
+            changed.classes = to as usize;
+        }
+        b'R' => {
+            changed.rows[at] = (to % 65536) as u16;
+        }
+        b'E' => {
+            changed.epoch = to;
+        }
+        b'M' => {
+            changed.minimums[at] = to;
+        }
+        b'C' => {
+            changed.covers[at] = (to % 65536) as u16;
+        }
+        b'T' => {
+            changed.caps[at] = to;
+        }
+        _ => {}
+    }
+    changed
+}
+
+// A policy with the changes that stand in a list from an index on: of each the field's first letter, a place in it, and the number that is to stand there.
+pub(crate) fn changed(p: Policy, list: List, from: usize) -> Policy {
+    let mut changed = p;
+    let mut at = from;
+    while at < 158 {
+        let field = (list.at[at] % 256) as u8;
+        changed = with_number(changed, field, list.at[at + 1], list.at[at + 2]);
+        at += 3;
+    }
+    changed
+}
+
+// Whether a policy is in range.
+pub(crate) fn in_range(c: Case) {
+    if policy::in_range(c.policy) {
+        words(b" yes\n");
+    } else {
+        words(b" no\n");
+    }
+}

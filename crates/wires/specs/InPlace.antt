@@ -28,11 +28,11 @@ pub record Drivable (b : Bus) (offset : ℕ) : Type 0 where
   pub in-step : offset ≡ b .cycle % b .timing .turn
 
 -- what the second step left is the definition's: the command as its number in the log, the queues, and what is in flight
-pub record Driven (b : Bus) (r : Drove) (queues : Queues) (flight : Flight) : Type 0 where
+pub record Carried (b : Bus) (r : Drove) (queues : Queues) (flight : Flight) : Type 0 where
   pub command : r .command ≡ commandNumber (drive b .wires)
   pub queues-are : queues ≡ drive b .queues
   pub flight-is : flight ≡ drive b .flight
 
 -- the promise of driving the wires in place
 abbrev pub Drives : Bus → ℕ → Drove → Queues → Flight → Type 0
-Drives b offset r queues flight = Drivable b offset → Driven b r queues flight
+Drives b offset r queues flight = Drivable b offset → Carried b r queues flight

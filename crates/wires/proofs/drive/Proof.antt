@@ -15,10 +15,9 @@ use Rattle.queues.specs.Waiting.{headOf, lengthOf, place, waitingAt, queuesOf}
 use Rattle.flight.specs.Flight.{dueAt, flightOf, sentAt}
 use Rattle.rules.specs.Queue.{dequeue}
 use Rattle.rules.specs.Wire.{gapsMetBy, gapsMet, offsetAllows, activated}
-use Rattle.rules.specs.Step as step
-use Rattle.rules.specs.Step.{Bus, dueColumn, goesAt, going, canActivate, drive}
+use Rattle.rules.specs.Step.{Driven, Bus, dueColumn, goesAt, going, canActivate, drive}
 use Rattle.rules.specs.Ready.{SoundRequest}
-use Rattle.wires.specs.InPlace.{busOf, Drivable, Driven}
+use Rattle.wires.specs.InPlace.{busOf, Drivable, Carried}
 use Rattle.wires.specs.declared.Drove.{Drove}
 use Rattle.queues.specs.declared.Queues.{Queues}
 use Rattle.requests.proofs.Word.{word-back, offer-fits}
@@ -117,13 +116,13 @@ gaps-are c g =
 
 -- ---- the outcomes, in the words of the contract
 
-module _ (b : Bus) (d : step.Driven) (e : drive b ≡ d) where
-  driven : (r : Drove) → r .command ≡ commandNumber (d .wires) → Driven b r (d .queues) (d .flight)
-  driven r k =
+module _ (b : Bus) (d : Driven) (e : drive b ≡ d) where
+  carried : (r : Drove) → r .command ≡ commandNumber (d .wires) → Carried b r (d .queues) (d .flight)
+  carried r k =
       record {
-        command = k ∙ sym (ap (λ (x : step.Driven). commandNumber (x .wires)) e);
-        queues-are = sym (ap (λ (x : step.Driven). x .queues) e);
-        flight-is = sym (ap (λ (x : step.Driven). x .flight) e);
+        command = k ∙ sym (ap (λ (x : Driven). commandNumber (x .wires)) e);
+        queues-are = sym (ap (λ (x : Driven). x .queues) e);
+        flight-is = sym (ap (λ (x : Driven). x .flight) e);
       }
 
 cast-place : tie.Need-cast-place
@@ -152,7 +151,7 @@ returns c g =
     let b = bus-of (test .before .before .before) in
     let offer = g .ready .due-offer (test .if1 .taken) in
     let fits : (dueColumn b + 1073741824) % 4294967296 ≡ dueColumn b + 1073741824 = omega (arith, offer-fits _ offer) in
-    driven b _ (drive-column b (ne-eqb _ 0 (test .if1 .taken))) _ (c .wrapping-add-u32 .ensures ∙ fits ∙ sym (ap columnNumber (word-back (dueColumn b) offer)))
+    carried b _ (drive-column b (ne-eqb _ 0 (test .if1 .taken))) _ (c .wrapping-add-u32 .ensures ∙ fits ∙ sym (ap columnNumber (word-back (dueColumn b) offer)))
 
 offset-allows-requires : tie.Need-offset-allows-requires
 offset-allows-requires c κs = search needs
@@ -164,7 +163,7 @@ returns-2 c g =
     let s = start-1 test in
     let b = bus-of s in
     let out = sym (allows (c .before) g) ∙ not-true _ (c .if2 .taken) in
-    driven b _ (drive-nothing b (none-due test) (and-fails-left _ _ (and-fails-left (offsetAllows (s .args .timing) (s .args .at .elided) (s .args .at .cycle)) (ltb (goesAt b) (lengthOf (queues-of s) (s .args .at .owner))) out))) _ refl
+    carried b _ (drive-nothing b (none-due test) (and-fails-left _ _ (and-fails-left (offsetAllows (s .args .timing) (s .args .at .elided) (s .args .at .cycle)) (ltb (goesAt b) (lengthOf (queues-of s) (s .args .at .owner))) out))) _ refl
 
 mul-if3 : tie.Need-mul-if3
 mul-if3 c = search needs
@@ -183,7 +182,7 @@ returns-3 c g =
     let s = start-2 test in
     let b = bus-of s in
     let out = le-ltb (goesAt b) (lengthOf (queues-of s) (s .args .at .owner)) (rw (owner-is s g) at (none-wait c)) in
-    driven b _ (drive-nothing b (none-due (test .before .before)) (and-fails-left _ _ (and-fails-right (offsetAllows (s .args .timing) (s .args .at .elided) (s .args .at .cycle)) (ltb (goesAt b) (lengthOf (queues-of s) (s .args .at .owner))) out))) _ refl
+    carried b _ (drive-nothing b (none-due (test .before .before)) (and-fails-left _ _ (and-fails-right (offsetAllows (s .args .timing) (s .args .at .elided) (s .args .at .cycle)) (ltb (goesAt b) (lengthOf (queues-of s) (s .args .at .owner))) out))) _ refl
 
 head-of-requires : tie.Need-head-of-requires
 head-of-requires c κs = search needs
@@ -214,7 +213,7 @@ returns-4 c g =
     let test = at-head (c .before) .before .before in
     let none = none-due (else1-of-else3 test) in
     let ready = offsetAllows (s .args .timing) (s .args .at .elided) (s .args .at .cycle) && ltb (goesAt b) (lengthOf (queues-of s) (s .args .at .owner)) in
-    driven b _ (drive-nothing b none (and-fails-right ready (gapsMet (s .args .timing) (b .flight) (going b) (s .args .at .cycle)) (gaps-are (c .before) g ∙ not-true _ (c .if4 .taken)))) _ refl
+    carried b _ (drive-nothing b none (and-fails-right ready (gapsMet (s .args .timing) (b .flight) (going b) (s .args .at .cycle)) (gaps-are (c .before) g ∙ not-true _ (c .if4 .taken)))) _ refl
 
 dequeue-requires : tie.Need-dequeue-requires
 dequeue-requires c κs = (omega arith, some-wait (at-head (c .before .before .before) .before .before))
@@ -242,7 +241,7 @@ returns-5 c g =
     let taken : ℕ → ℕ → Queues = λ k l. queuesOf (a .slots .now) (set (a .heads .now) k ((getD (a .heads .now) k 0 + 1) % 8)) (set (a .lengths .now) l (getD (a .lengths .now) l 0 - 1)) in
     let request = sound head g in
     let offer = subst (λ (w : ℕ). isOffer w ≡ true) word (request .offer) in
-    let right = driven b _ e (record { command = going b; last = 0 }) (sym (word-back (going b) offer)) in
+    let right = carried b _ e (record { command = going b; last = 0 }) (sym (word-back (going b) offer)) in
     record {
       command = word ∙ right .command;
       queues-are = ap₂ (queuesOf (a .slots .now)) (removed .0) (removed .1) ∙ ap₂ taken owner owner ∙ right .queues-are;

@@ -8,15 +8,14 @@ use Rattle.policy.proofs.Laws.{policy-laws}
 use Rattle.requests.specs.Word.{commandNumber}
 use Rattle.flight.specs.Flight.{dueAt, flightOf}
 use Rattle.queues.specs.Waiting.{queuesOf}
-use Rattle.rules.specs.Step as step
-use Rattle.rules.specs.Step.{TurnStart, turnsAt, Bus, drive, answered}
+use Rattle.rules.specs.Step.{TurnStart, turnsAt, Driven, Bus, drive, answered}
 use Rattle.rules.specs.Call.{busAt, afterTick}
 use Rattle.rules.specs.Calls.{Answer}
 use Rattle.scheduler.specs.InPlace.{stateOf, startOf}
 use Rattle.queues.specs.declared.Queues.{Queues}
 use Rattle.flight.specs.declared.Flight.{Flight}
 use Rattle.state.specs.declared.State.{State}
-use Rattle.wires.specs.InPlace.{Driven}
+use Rattle.wires.specs.InPlace.{Carried}
 use Rattle.rules.proofs.Step.{turn-owner}
 use Rattle.rules.proofs.Range.{Ranged, ranged, BusRange, bus-range, ready}
 use Rattle.scheduler.proofs.ticking.tick_in_place.Statement.{statement}
@@ -66,7 +65,7 @@ bus-fit : (c : tie.After-turns-at) → BusRange (start-turned c .args .p .classe
 bus-fit c = let s = start-turned c in bus-range (s .args .p) (given s) (fit s) (turned c .turns) (owner-small c)
 
 -- the definition's second step
-abbrev right-drive : tie.Start → step.Driven
+abbrev right-drive : tie.Start → Driven
 right-drive s = drive (busAt (s .args .p) (given s) (right-turns s .turns))
 
 driven-right : (c : tie.After-drive) → drive (bus (at-turned c)) ≡ right-drive (start-driven c)
@@ -79,14 +78,14 @@ abbrev flight-driven : tie.After-drive → Flight
 flight-driven c = flightOf (c .drive .last .1 .1 .1 .1 .1 .0) (c .drive .last .1 .1 .1 .1 .1 .1 .0) (c .drive .last .1 .1 .1 .1 .1 .1 .1 .0) (c .drive .result .last)
 
 -- what the second step in place promises of it
-promised : (c : tie.After-drive) → Driven (bus (at-turned c)) (c .drive .result) (queues-driven c) (flight-driven c)
+promised : (c : tie.After-drive) → Carried (bus (at-turned c)) (c .drive .result) (queues-driven c) (flight-driven c)
 promised c =
     let at = at-turned c in
     let s = start-turned at in
     c .drive .ensures (record { ready = ready (s .args .p .classes) (bus at) (bus-fit at) (s .pre .1); in-step = s .pre .0 .in-step })
 
 flight-right : (c : tie.After-drive) → flight-driven c ≡ right-drive (start-driven c) .flight
-flight-right c = promised c .flight-is ∙ ap (λ (d : step.Driven). d .flight) (driven-right c)
+flight-right c = promised c .flight-is ∙ ap (λ (d : Driven). d .flight) (driven-right c)
 
 -- ---- a tick's answer, of its parts
 
@@ -131,10 +130,10 @@ returns c =
     let responded : Flight → List ℕ → Flight = λ f responses. record { columns = f .columns; responses = responses; banks = f .banks; last = f .last } in
     rw (c .next-moment .ensures) (
       same-answers t (s .args .m .classes)
-          (promised at .queues-are ∙ ap (λ (x : step.Driven). x .queues) (driven-right at))
+          (promised at .queues-are ∙ ap (λ (x : Driven). x .queues) (driven-right at))
           (turned-right (at-turned at))
           (ap (responded (flight-driven at)) (sent .1) ∙ ap (answered t) (flight-right at))
-          (promised at .command ∙ ap (λ (x : step.Driven). commandNumber (x .wires)) (driven-right at))
+          (promised at .command ∙ ap (λ (x : Driven). commandNumber (x .wires)) (driven-right at))
           (sent .0 ∙ ap (λ (f : Flight). dueAt (f .responses) t) (flight-right at)),
       record { in-step = refl; same-bottom = refl; same-count = refl },
     )

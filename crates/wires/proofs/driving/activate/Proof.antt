@@ -1,6 +1,6 @@
 -- `wires::driving::activate` meets its contract: the four stores are those of the definition.
 -- Assumes nothing.
-use mathlib.Core.Path.{_≡_, ap, _∙_}
+use mathlib.Core.Path.{_≡_}
 use Prim.Native.Nat.{ℕ, _+_, _%_}
 use native.Mathlib.Omega.{arith}
 use Rattle.requests.specs.Word.{kindOf, bankOf}

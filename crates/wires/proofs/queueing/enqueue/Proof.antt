@@ -1,5 +1,6 @@
 -- `wires::queueing::enqueue` meets its contract: a place of a class's ring is one of the 128.
 -- Assumes nothing.
+use mathlib.Core.Path.{_≡_, _∙_}
 use native.Mathlib.Omega.{arith}
 use borrow.Author.Needs.{needs}
 use lib.ListN.{getD}
@@ -46,7 +47,10 @@ unfolding enqueue headOf lengthOf
 returns c =
     let s = c .before .before .before in
     let class = s .args .class in
-    rw (c .place .ensures, of-class class (getD (s .args .heads .now) class 0) (getD (s .args .lengths .now) class 0) (s .pre .0))
+    let head = getD (s .args .heads .now) class 0 in
+    let length = getD (s .args .lengths .now) class 0 in
+    let stored-at : c .place .result ≡ place class head length = c .place .ensures ∙ of-class class head length (s .pre .0) in
+    rw stored-at
 
 pub enqueue-spec : {M : Type 1} → statement M
 enqueue-spec =

@@ -176,12 +176,12 @@ class Refusals(StreakCase):
         status, out, _ = self.compare(b"", "\n".join([HEADER, *map(line_of, self.numbers([0] * 3))]))
         self.assertEqual((status, out.splitlines()[1]), (1, "this run differs: first in cycle 0, last in cycle 0; the model refuses the policy with 1, and the block takes it"))
         status, out, _ = self.compare(POLICY, "policy refused 1\n")
-        self.assertEqual((status, out.splitlines()[1]), (1, "this run differs: first in cycle 0, last in cycle 2; the model takes it, and the block refuses the policy with 1"))
+        self.assertEqual((status, out.splitlines()[1]), (1, "this run differs: first in cycle 0, last in cycle 2; the model takes the policy, and the block refuses it with 1"))
         self.assertEqual(out.splitlines()[0], "streak: 0 cycles since the block last differed")
 
     def test_another_refusal(self):
         status, out, _ = self.compare(b"", "policy refused 2\n")
-        told = "this run differs: first in cycle 0, last in cycle 0; the model refuses the policy with 1, and the block refuses the policy with 2"
+        told = "this run differs: first in cycle 0, last in cycle 0; the model refuses the policy with 1, and the block refuses it with 2"
         self.assertEqual((status, out.splitlines()[1]), (1, told))
 
 
@@ -239,6 +239,9 @@ class Forms(StreakCase):
         numbers = self.numbers([OFFER, 0, 0, 0])
         text = "\r\n".join(["# by the bench", HEADER, "", *(line_of(line).lower() for line in numbers), "  # the end"]) + "\r\n"
         self.streak([OFFER, 0, 0, 0], self.text(text), 3)
+        # The mark that some editors put before a text, in both forms.
+        self.streak([OFFER, 0, 0, 0], self.text("\ufeff" + "\n".join([HEADER, *map(line_of, numbers)])), 6)
+        self.streak([OFFER, 0, 0, 0], self.text("\ufeffcommand 0 80010007\r\ncommand 1 C0010007\r\nanswer 2 80010007\r\ncycles 3\r\n"), 9)
 
     def test_many_calls_in_one_cycle(self):
         """Of many equal calls in one cycle most are only counted."""
@@ -294,6 +297,7 @@ class Ledgers(StreakCase):
         entry = json.loads(good)
         for line, fault in (
             ("{", "not JSON"),
+            ("[" * 100_000, "not JSON"),
             ("[]", "not an object"),
             (json.dumps({**entry, "cycles": -1}), "cycles is not a number from 0 on"),
             (json.dumps({**entry, "cycles": True}), "cycles is not a number"),

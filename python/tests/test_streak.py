@@ -167,9 +167,10 @@ class Refusals(StreakCase):
         folder = self.folder([0, 0, 0], policy=policy)
         return vig("streak", folder, self.text(text), "--ledger", self.ledger)
 
-    def test_the_same_refusal_is_an_empty_run(self):
+    def test_the_same_refusal_is_a_difference_too(self):
         status, out, err = self.compare(b"", "policy refused 1\n")
-        self.assertEqual((status, out), (0, "streak: 0 cycles and no difference so far\n"))
+        told = "this run differs: first in cycle 0, last in cycle 0; the model and the block refuse the policy with 1, and nothing was compared"
+        self.assertEqual((status, out.splitlines()), (1, ["streak: 0 cycles since the block last differed", told]))
         self.assertIn("the model refuses the policy with 1: the file is under 17", err)
 
     def test_only_one_refuses(self):
@@ -189,7 +190,7 @@ class Forms(StreakCase):
     def test_the_examples_own_outputs(self):
         """What the program prints for an example is a recorded log without a difference; bytes left over at a trace's end are none."""
         cycles = 0
-        for name, ticks in (("two-tenants", 42), ("refused-calls", 12), ("diamond", 45), ("refused", 0)):
+        for name, ticks in (("two-tenants", 42), ("refused-calls", 12), ("diamond", 45)):
             cycles += ticks
             out = self.succeeds("streak", EXAMPLES / name, EXAMPLES / name / "expected.txt", "--ledger", self.ledger)
             self.assertEqual(out, "streak: %d cycles and no difference so far\n" % cycles)

@@ -70,11 +70,11 @@ def compare(status, log, folder, recorded):
 
 
 def _compare_refusals(status, log, folder, recorded):
-    """One of the two refuses the policy, so that no cycle is compared. The same refusal on both sides is an empty run; anything else is a difference, in cycle 0 and to the end."""
+    """One of the two refuses the policy, or both do, so that no cycle is compared: a difference, in cycle 0 and to the end."""
     told = recorded.number if isinstance(recorded, RefusedLog) else 0
-    if told == status:
-        return Comparison(0)
     cycles = 0 if status else ticks_of(folder.trace, log)
+    if told == status:
+        return Comparison(cycles, 0, 0, "the model and the block refuse the policy with %d, and nothing was compared" % status)
     first, second = ("refuses %s with %d" % (what, number) if number else "takes %s" % what for number, what in ((status, "the policy"), (told, "it")))
     return Comparison(cycles, 0, max(0, cycles - 1), "the model %s, and the block %s" % (first, second))
 

@@ -179,7 +179,7 @@ class Search(Case):
             self.assertEqual(bool(cycles), habit.__name__ != "idle")
             self.assertTrue(all(cycle >= 0 for cycle in cycles))
         strays = [a_stray(Draws("stray", number), policy) for number in range(200)]
-        self.assertFalse([word for word in strays if is_tick(word) or is_offer(word) and request_of(word).owner < policy.classes])
+        self.assertFalse([word for word in strays if is_tick(word) or is_offer(word) and request_of(word).class_ < policy.classes])
 
     def test_fillings_are_hidden(self):
         policy = policy_of((IDLE / "policy.bin").read_bytes())

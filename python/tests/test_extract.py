@@ -45,6 +45,18 @@ class Extract(Case):
         shutil.copy(folder / "policy.bin", self.room)
         self.assertIn("trace.bin: no such file", self.fails(2, "extract", self.room, "--class", "0"))
 
+    def test_without_names(self):
+        """A class is then called as the messages call it, or by its number. A name of a class that the policy does not have is no name."""
+        for name in ("policy.bin", "trace.bin"):
+            shutil.copy(EXAMPLES / "diamond" / name, self.room)
+        by_number, as_shown = (self.succeeds("extract", self.room, "--class", name) for name in ("2", "class 2"))
+        self.assertEqual(by_number, as_shown)
+        self.assertIn("its classes are class 0, class 1, class 2, class 3", self.fails(2, "extract", self.room, "--class", "right"))
+        (self.room / "policy.names").write_text("0 base\n9 more\n")
+        self.assertIn("more: no class of this policy; its classes are base, class 1", self.fails(2, "extract", self.room, "--class", "more"))
+        (self.room / "policy.names").write_text("%s base\n" % ("0" * 5000))
+        self.assertIn("policy.names, line 1: ", self.fails(2, "extract", self.room, "--class", "0"))
+
     def test_empty_trace(self):
         shutil.copy(EXAMPLES / "two-tenants" / "policy.bin", self.room)
         (self.room / "trace.bin").write_bytes(b"")

@@ -150,11 +150,11 @@ class Generated(HistoryCase):
         class Watching(Told):
             def refused(inner, word, status):
                 if status == QUEUE_FULL:
-                    self.assertEqual(inner.lengths[request_of(word).owner], QUEUE_PLACES)
+                    self.assertEqual(inner.lengths[request_of(word).class_], QUEUE_PLACES)
                 super().refused(word, status)
 
             def taken(inner, word):
-                self.assertLessEqual(inner.lengths[request_of(word).owner], QUEUE_PLACES)
+                self.assertLessEqual(inner.lengths[request_of(word).class_], QUEUE_PLACES)
                 super().taken(word)
 
         return sum(status == QUEUE_FULL for _, _, status in Watching(ran.policy).run(ran).refusals)

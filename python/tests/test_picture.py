@@ -97,15 +97,15 @@ class PictureCase(Case):
         marks = {kind: Counter() for kind in MARKS}
         for call in shown:
             if call.status:
-                owner = request_of(call.word).owner if is_offer(call.word) else None
+                owner = request_of(call.word).class_ if is_offer(call.word) else None
                 marks["refusal"][len(rows) if owner is None or owner >= classes else rows.index(owner), call.cycle] += 1
             elif call.ticks:
                 if call.command and not is_column(call.command):
-                    marks["activate"][rows.index(request_of(call.command).owner), call.cycle] += 1
+                    marks["activate"][rows.index(request_of(call.command).class_), call.cycle] += 1
                 if call.response:
-                    marks["answer"][rows.index(request_of(call.response).owner), call.cycle] += 1
+                    marks["answer"][rows.index(request_of(call.response).class_), call.cycle] += 1
             else:
-                marks["offer"][rows.index(request_of(call.word).owner), call.cycle] += 1
+                marks["offer"][rows.index(request_of(call.word).class_), call.cycle] += 1
         for kind, wanted in marks.items():
             got = Counter()
             for mark in picture.marks(kind):

@@ -39,6 +39,8 @@ CLASS_TABLES = GOOD[GOOD.index("[class.base]") :]
 # What is wrong, and how the good text is changed to have it: pairs of what goes and what comes.
 MISTAKES = {
     "an unknown key of the policy": [("epoch = 4", "epoc = 4")],
+    "above mistyped": [('[class.red]\nabove', "[class.red]\nabov")],
+    "a number that is out of all bounds": [("epoch = 4", "epoch = 0x%s" % ("f" * 5000))],
     "an unknown key that is like none": [("epoch = 4", "epoch = 4\nfrequency = 3")],
     "an unknown key of the timing": [("dead_time = 3", "deadtime = 3")],
     "a short key of the timing": [("column_delay = 1", "column = 1")],
@@ -185,6 +187,23 @@ class Texts(Case):
         (self.room / "policy.toml").write_bytes(b"epoch = 3\n\xff\xfe")
         self.assertIn("line 2: not TOML: byte 10, 255, is not part of a text", self.fails(1, "policy", "check", self.room / "policy.toml"))
         self.assertIn("not TOML: byte 3, 0, is not part of a text", self.fails(1, "policy", "check", EXAMPLES / "diamond" / "policy.bin"))
+
+    def test_texts_that_go_too_far(self):
+        """Python's own reader gives up on these; they are told like any other mistake."""
+        for old, new, told in (
+            ("epoch = 4", "epoch = " + "9" * 5000, "not TOML: a number has thousands of digits"),
+            ("epoch = 4", "epoch = " + "[" * 5000 + "]" * 5000, "brackets stand inside brackets, too deep"),
+            ("turn_length", 'clock = "%s MHz"\nturn_length' % ("9" * 5000), "is not a clock"),
+            ("turn_length = 6", 'clock = "1 MHz"\nturn_length = "%s ns"' % ("9" * 5000), "is neither a number of cycles nor a time"),
+            ("turn_length = 6", 'turn_length = "%s"' % ("9" * 5000), "is not a whole number"),
+        ):
+            self.assertIn(told, self.fails(1, "policy", "check", self.write(GOOD.replace(old, new, 1))))
+
+    def test_one_class_and_one_turn(self):
+        text = GOOD[: GOOD.index("[class.red]")].replace("epoch = 4", "epoch = 1") + "minimum = 1\n"
+        out = self.succeeds("policy", "check", self.write(text))
+        self.assertIn(": 1 class, an epoch of 1 turn\n", out)
+        self.assertNotIn("1 turns", out)
 
     def test_line_ends_of_another_system(self):
         (self.room / "policy.toml").write_bytes(GOOD.replace("\n", "\r\n").replace("epoch = 4", "epoch = 0").encode())

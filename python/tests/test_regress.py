@@ -158,11 +158,28 @@ class Regress(Case):
             ],
         )
 
+    def test_patterns_and_a_single_folder(self):
+        """A pattern may be any: what fits nothing is told. A folder that is a run itself is a list of one."""
+        self.copies("diamond", "printed-log", "single-class")
+        for pattern, names in (
+            ("d*", ["diamond"]),
+            ("[ps]*", ["printed-log", "single-class"]),
+            ("**", ["diamond", "printed-log", "single-class"]),
+            ("%s/s?ngle-*" % self.room, [str(self.room / "single-class")]),
+        ):
+            out = self.succeeds("regress", self.list(pattern), "-j", 1)
+            self.assertEqual([line.split()[0] for line in out.splitlines()[1:]], names)
+        for pattern in ("***x", "[", "/nix*"):
+            self.assertIn("no folder with a policy.bin fits this pattern", self.fails(2, "regress", self.list(pattern)))
+        out = self.succeeds("regress", self.room / "diamond")
+        self.assertEqual([line.split()[:2] for line in out.splitlines()[1:]], [[str(self.room / "diamond"), "same"]])
+
     def test_wrong_usage(self):
         self.assertIn("nix: no such file", self.fails(2, "regress", self.room / "nix"))
         self.assertIn("no folder with a policy.bin in it", self.fails(2, "regress", self.room))
         self.assertIn("-j 0: a number from 1 on is wanted", self.fails(2, "regress", EXAMPLES, "-j", 0))
         self.assertIn("no such folder to write to", self.fails(2, "regress", EXAMPLES, "--csv", self.room / "nix" / "rows.csv"))
+        self.assertIn("a folder, where a file is to be written", self.fails(2, "regress", EXAMPLES, "--junit", self.room))
         self.assertIn("nothing in it to run", self.fails(2, "regress", self.list("# nothing")))
 
     def test_a_run_that_cannot_be_made(self):
@@ -174,6 +191,15 @@ class Regress(Case):
             status, _, _ = vig("regress", self.room, "-j", 1, "--junit", self.room / "rows.xml")
         self.assertEqual(status, 2)
         self.assertEqual(ElementTree.parse(self.room / "rows.xml").getroot().get("errors"), "1")
+
+    def test_a_program_that_is_cut_short(self):
+        """As where memory runs out: inside a line, or between two."""
+        folder, program = self.copies("printed-log") / "printed-log", self.room / "program"
+        for last, verdict in (("0000", "error: the program was cut short inside a line"), ("", "error: the program ended with -9")):
+            program.write_text("#!/bin/sh\necho status command answer turn\nprintf '%s'\nkill -9 $$\n" % last)
+            program.chmod(0o755)
+            row = regression.run_one(program, "cut", folder)
+            self.assertEqual((row.verdict, row.passed), (verdict, False))
 
     def test_progress_on_a_terminal(self):
         with mock.patch.object(sys.stderr, "isatty", lambda: True, create=True):

@@ -115,13 +115,13 @@ class Numbers(Case):
             calls = list(calls_of(ran.trace, ran.log))
             ticks = [call for call in calls if call.ticks]
             owners = [owner_of(call.turn) for call in ticks if call.turn]
-            activates = [(call.cycle // ran.policy.turn, request_of(call.command).owner) for call in ticks if call.command and not call.command & COLUMN]
+            activates = [(call.cycle // ran.policy.turn, request_of(call.command).class_) for call in ticks if call.command and not call.command & COLUMN]
             self.assertEqual((figures.ticks, figures.turns), (len(ticks), len(owners)))
             self.assertEqual(figures.busy, sum(call.command != 0 for call in ticks))
             self.assertEqual(figures.refusals, Counter(call.status for call in calls if call.status))
             whole = [owners[start : start + ran.policy.epoch] for start in range(0, len(owners), ran.policy.epoch)]
             for number, service in enumerate(figures.services):
-                mine = [call for call in calls if call.offers and request_of(call.word).owner == number]
+                mine = [call for call in calls if call.offers and request_of(call.word).class_ == number]
                 self.assertEqual(service.taken, sum(call.status == 0 for call in mine))
                 self.assertEqual(service.full, sum(call.status == 11 for call in mine))
                 self.assertEqual(service.turns, owners.count(number))
@@ -160,8 +160,8 @@ class Numbers(Case):
 
 def waits_of(number, calls):
     """A class's waits: its requests leave, and so are answered, in the order of their offers."""
-    offered = [call.cycle for call in calls if call.offers and call.status == 0 and request_of(call.word).owner == number]
-    answered = [call.cycle for call in calls if call.response and request_of(call.response).owner == number]
+    offered = [call.cycle for call in calls if call.offers and call.status == 0 and request_of(call.word).class_ == number]
+    answered = [call.cycle for call in calls if call.response and request_of(call.response).class_ == number]
     return [answer - offer for offer, answer in zip(offered, answered)]
 
 

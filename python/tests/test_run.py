@@ -4,12 +4,13 @@ import shutil
 from collections import Counter
 from unittest import mock
 
+from vigambul import build
 from vigambul.commands.run import summary
 from vigambul.formats import bytes_of, words_of
 
 from .support import EXAMPLES, Case, vig
 
-TAKEN = [EXAMPLES / name for name in ("chain-of-three", "diamond", "printed-log", "refused-calls", "single-class", "two-tenants", "two-tenants-busy")]
+TAKEN = sorted(path.parent for path in EXAMPLES.glob("*/policy.bin") if path.parent.name != "refused")
 
 
 class Run(Case):
@@ -45,6 +46,21 @@ class Run(Case):
             status, out, err = vig("run", EXAMPLES / "refused", *options)
             self.assertEqual((status, out), (1, "policy refused 5\n"))
             self.stored("run/refused-policy.txt", err.replace(str(EXAMPLES), "examples"))
+
+    def test_how_the_program_ends(self):
+        """With 0 or 1 it has said all that there is to say; with anything else it has not."""
+        folder, program = self.folder("diamond", b""), self.room / "program"
+        for code, said, status, told in (
+            (1, "policy refused 5", 1, "policy refused 5: the order is not transitive"),
+            (1, "status command answer turn", 0, "ticks: 0"),
+            (3, "", 2, "ended with status 3"),
+        ):
+            program.write_text("#!/bin/sh\necho %s\nexit %d\n" % (said, code))
+            program.chmod(0o755)
+            with mock.patch.object(build, "program", lambda: program):
+                ended, out, err = vig("run", folder)
+            self.assertEqual((ended, out), (status, said + "\n"))
+            self.assertIn(told, err)
 
     def test_empty_trace(self):
         folder = self.folder("diamond", b"")

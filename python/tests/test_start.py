@@ -5,6 +5,7 @@ import os
 import shlex
 import shutil
 from pathlib import Path
+from unittest import mock
 
 from vigambul import ledger
 from vigambul.commands import start
@@ -53,6 +54,13 @@ class Start(Case):
                 self.succeeds(*(word.replace(str(start.EXAMPLE), str(copy)) for word in words[1:]))
             self.assertEqual(made, {name: (copy / name).read_bytes() for name in made})
             self.assertIn("<svg", (self.room / "picture.svg").read_text())
+
+    def test_a_path_with_spaces(self):
+        """What is shown can be typed as it is."""
+        with mock.patch.object(start.build, "ROOT", self.room / "a b"), mock.patch.object(start, "EXAMPLE", self.room / "a b" / "examples" / "cloud"):
+            out = start.how_to_begin("none")
+        commands = [shlex.split(line) for line in out.splitlines() if line.startswith("    ")]
+        self.assertEqual(commands[0][1:4], ["policy", "make", str(self.room / "a b" / "examples" / "cloud" / "policy.toml")])
 
     def test_in_the_repository(self):
         with inside(EXAMPLES.parent):

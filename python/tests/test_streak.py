@@ -167,21 +167,22 @@ class Refusals(StreakCase):
         folder = self.folder([0, 0, 0], policy=policy)
         return vig("streak", folder, self.text(text), "--ledger", self.ledger)
 
-    def test_the_same_refusal_is_an_empty_run(self):
+    def test_the_same_refusal_is_a_difference_too(self):
         status, out, err = self.compare(b"", "policy refused 1\n")
-        self.assertEqual((status, out), (0, "streak: 0 cycles and no difference so far\n"))
+        told = "this run differs: first in cycle 0, last in cycle 0; the model and the block refuse the policy with 1, and nothing was compared"
+        self.assertEqual((status, out.splitlines()), (1, ["streak: 0 cycles since the block last differed", told]))
         self.assertIn("the model refuses the policy with 1: the file is under 17", err)
 
     def test_only_one_refuses(self):
         status, out, _ = self.compare(b"", "\n".join([HEADER, *map(line_of, self.numbers([0] * 3))]))
         self.assertEqual((status, out.splitlines()[1]), (1, "this run differs: first in cycle 0, last in cycle 0; the model refuses the policy with 1, and the block takes it"))
         status, out, _ = self.compare(POLICY, "policy refused 1\n")
-        self.assertEqual((status, out.splitlines()[1]), (1, "this run differs: first in cycle 0, last in cycle 2; the model takes it, and the block refuses the policy with 1"))
+        self.assertEqual((status, out.splitlines()[1]), (1, "this run differs: first in cycle 0, last in cycle 2; the model takes the policy, and the block refuses it with 1"))
         self.assertEqual(out.splitlines()[0], "streak: 0 cycles since the block last differed")
 
     def test_another_refusal(self):
         status, out, _ = self.compare(b"", "policy refused 2\n")
-        told = "this run differs: first in cycle 0, last in cycle 0; the model refuses the policy with 1, and the block refuses the policy with 2"
+        told = "this run differs: first in cycle 0, last in cycle 0; the model refuses the policy with 1, and the block refuses it with 2"
         self.assertEqual((status, out.splitlines()[1]), (1, told))
 
 
@@ -189,7 +190,7 @@ class Forms(StreakCase):
     def test_the_examples_own_outputs(self):
         """What the program prints for an example is a recorded log without a difference; bytes left over at a trace's end are none."""
         cycles = 0
-        for name, ticks in (("two-tenants", 42), ("refused-calls", 12), ("diamond", 45), ("refused", 0)):
+        for name, ticks in (("two-tenants", 42), ("refused-calls", 12), ("diamond", 45)):
             cycles += ticks
             out = self.succeeds("streak", EXAMPLES / name, EXAMPLES / name / "expected.txt", "--ledger", self.ledger)
             self.assertEqual(out, "streak: %d cycles and no difference so far\n" % cycles)
@@ -239,6 +240,9 @@ class Forms(StreakCase):
         numbers = self.numbers([OFFER, 0, 0, 0])
         text = "\r\n".join(["# by the bench", HEADER, "", *(line_of(line).lower() for line in numbers), "  # the end"]) + "\r\n"
         self.streak([OFFER, 0, 0, 0], self.text(text), 3)
+        # The mark that some editors put before a text, in both forms.
+        self.streak([OFFER, 0, 0, 0], self.text("\ufeff" + "\n".join([HEADER, *map(line_of, numbers)])), 6)
+        self.streak([OFFER, 0, 0, 0], self.text("\ufeffcommand 0 80010007\r\ncommand 1 C0010007\r\nanswer 2 80010007\r\ncycles 3\r\n"), 9)
 
     def test_many_calls_in_one_cycle(self):
         """Of many equal calls in one cycle most are only counted."""
@@ -294,6 +298,7 @@ class Ledgers(StreakCase):
         entry = json.loads(good)
         for line, fault in (
             ("{", "not JSON"),
+            ("[" * 100_000, "not JSON"),
             ("[]", "not an object"),
             (json.dumps({**entry, "cycles": -1}), "cycles is not a number from 0 on"),
             (json.dumps({**entry, "cycles": True}), "cycles is not a number"),

@@ -170,6 +170,14 @@ class Csv(TraceCase):
         self.succeeds("trace", "make", self.room / "t.csv", "-o", self.room / "trace.bin")
         self.assertEqual(list(words_of((self.room / "trace.bin").read_bytes())[0]), [0x8103001F, 0, 0])
 
+    def test_cells_that_go_too_far(self):
+        """Numbers of thousands of digits, and cells that are longer than Python reads."""
+        long = "9" * 5000
+        lines = ("%s,red,r,1,1" % long, "0,%s,r,1,1" % long, "0,red,r,%s,1" % long, "0,red,r,1,%s" % long, "%s,,end,," % long, "0,red,r,1,1" + "x" * 200_000)
+        told = self.mistakes("t.csv", "cycle,class,kind,bank,tag\n" + "\n".join(lines) + "\n")
+        self.assertTrue(told.startswith("vig: 6 mistakes in"), told[:200])
+        self.assertLess(max(map(len, told.splitlines())), 2_000)
+
     def test_tags_wrap(self):
         words = trace_of(Traffic([Entry(0, 1)] * 65_537, 0, b"", []))
         self.assertEqual([request_of(word).tag for word in (words[0], words[65_534], words[65_535], words[65_536])], [1, 65_535, 0, 1])
@@ -224,7 +232,7 @@ class Streams(TraceCase):
         for word in words:
             if is_tick(word):
                 cycle += 1
-            elif request_of(word).owner == owner:
+            elif request_of(word).class_ == owner:
                 found.append((cycle, word))
         return found
 
@@ -288,6 +296,9 @@ class Streams(TraceCase):
         self.stored("trace/one-bracket.txt", self.mistakes("bad.toml", 'cycles = 3\n[stream]\nclass = "red"\n'))
         self.stored("trace/syntax.txt", self.mistakes("bad.toml", 'cycles = 3\n[[stream]\nclass = "red"\n'))
         self.stored("trace/no-end.txt", self.mistakes("bad.toml", '[[stream]]\nclass = "red"\nevery = 2\n'))
+        self.assertIn("a number of 20000 bits", self.mistakes("bad.toml", 'cycles = 3\n[[stream]]\nclass = "red"\nevery = 0x%s\n' % ("f" * 5000)))
+        told = self.mistakes("bad.toml", 'cycles = 3\n[[stream]]\nclass = "red"\nwrites = 1e-999999999\n')
+        self.assertIn("writes: 1E-999999999\n  allowed: 0 to 1, as in 0.25, with at most 15 places", told)
         self.stored("trace/bad-cycles.txt", self.mistakes("bad.toml", 'cycles = "9"\n[[stream]]\nclass = "red"\n'))
 
     def test_warnings(self):

@@ -108,9 +108,9 @@ class VcdCase(Case):
                     wanted["turns_left." + name] = max(0, caps[number] - this_epoch.count(number))
                 self.assertEqual(dump.cycles[call.cycle], {"vigambul." + path: value for path, value in wanted.items()}, call.cycle)
                 if call.command and not is_column(call.command):
-                    lengths[request_of(call.command).owner] -= 1
+                    lengths[request_of(call.command).class_] -= 1
             elif call.offers and call.status == 0:
-                lengths[request_of(call.word).owner] += 1
+                lengths[request_of(call.word).class_] += 1
 
     def values_of(self, call, policy, names, owners, elided):
         text = lambda name: int.from_bytes(name.encode(), "big")
@@ -128,8 +128,8 @@ class VcdCase(Case):
         }
         for scope, word in (("command", call.command), ("answer", call.response)):
             request = request_of(word)
-            values[scope + ".name"] = text(names[request.owner] if word else "-")
-            values.update({scope + ".class": request.owner, scope + ".kind": request.kind, scope + ".bank": request.bank, scope + ".tag": request.tag})
+            values[scope + ".name"] = text(names[request.class_] if word else "-")
+            values.update({scope + ".class": request.class_, scope + ".kind": request.kind, scope + ".bank": request.bank, scope + ".tag": request.tag})
         return values
 
 

@@ -32,6 +32,7 @@ the modules here turn texts into their files and their numbers into words, table
 | `waveform` | a run as a value change dump, with a GTKWave save file |
 | `picture` | a run as a picture |
 | `tables` | aligned tables as text |
+| `svg` | elements of SVG |
 | `lines` | lines of a log as numbers, many at a time |
 | `recorded` | a recorded log of a hardware block, in its two forms |
 | `streak` | the model's log against a recorded one |

@@ -17,11 +17,11 @@ EPOCHS = 3
 LEAST_CYCLES = 64
 
 
-def a_request(draws, owner):
+def a_request(draws, number):
     """A word of a class: now and then with a bank or a kind that there is none of, mostly to few banks, so that neighbours meet."""
     bank = draws.below(2 * BANKS) if draws.chance(0.03) else draws.below(3) if draws.chance(0.5) else draws.below(BANKS)
     kind = draws.below(4) if draws.chance(0.03) else draws.below(2)
-    return Request(owner, kind, bank, draws.below(65_536)).word
+    return Request(number, kind, bank, draws.below(65_536)).word
 
 
 def a_stray(draws, policy):
@@ -70,9 +70,9 @@ HABITS = (idle, now_and_then, saturating, at_turn_edges, at_epoch_ends)
 def offers_of(draws, policy, classes, cycles):
     """The offers of classes, each with a habit of its own: for each cycle that has some, the words in their order."""
     by_cycle = {}
-    for owner in classes:
+    for number in classes:
         for cycle in draws.one_of(HABITS)(draws, policy, cycles):
-            by_cycle.setdefault(min(cycle, cycles), []).append(a_request(draws, owner))
+            by_cycle.setdefault(min(cycle, cycles), []).append(a_request(draws, number))
     return by_cycle
 
 

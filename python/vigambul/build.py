@@ -1,13 +1,16 @@
 """Finds the proved library and the proved program, and builds what is missing or older than its sources. Progress goes to standard error: which crate, how far, how long.
 Where they are built already the Rattle kit is not needed."""
 
+import fcntl
 import functools
 import hashlib
+import os
 import shutil
 import subprocess
 import sys
 import threading
 import time
+from contextlib import contextmanager
 from pathlib import Path
 
 from .errors import Wrong
@@ -96,14 +99,38 @@ def _rt(words, progress, log):
         raise Wrong("rt %s failed; %s has what it said" % (" ".join(words), log.name))
 
 
+def _is_built():
+    """Whether the library and the program are there and as new as their sources."""
+    return SHARED.is_file() and PROGRAM.is_file() and STAMP.is_file() and STAMP.read_text().strip() == sources()
+
+
+@contextmanager
+def _alone():
+    """Keeps a second call from building at the same time: it waits here, and finds everything built."""
+    with open(BUILT / "lock", "w", encoding="utf-8") as lock:
+        try:
+            fcntl.flock(lock, fcntl.LOCK_EX | fcntl.LOCK_NB)
+        except BlockingIOError:
+            print("another call is building the proved library; this one waits for it", file=sys.stderr)
+            fcntl.flock(lock, fcntl.LOCK_EX)
+        yield
+
+
 def _build():
     if shutil.which("rt") is None:
         raise Wrong("the proved library is not built, and the Rattle kit's command rt is not on the path")
     if shutil.which("gcc") is None:
         raise Wrong("gcc is not on the path: it links the proved library")
-    print("building the proved library and program, some minutes the first time", file=sys.stderr)
     BUILT.mkdir(parents=True, exist_ok=True)
+    with _alone():
+        if not _is_built():
+            _build_alone()
+
+
+def _build_alone():
+    print("building the proved library and program, some minutes the first time", file=sys.stderr)
     fingerprint = sources()
+    shared, program = (path.with_name(path.name + ".new") for path in (SHARED, PROGRAM))
     progress = Progress(len(needed()))
     try:
         with open(BUILT / "build.log", "w") as log:
@@ -111,22 +138,24 @@ def _build():
             progress.doing = "nothing more, linking the library"
             _rt(["staticlib", "capi"], None, log)
             archive = ROOT / "target" / "staticlib" / "libcapi.a"
-            link = ["gcc", "-shared", "-o", SHARED, "-Wl,--whole-archive", archive, "-Wl,--no-whole-archive"]
+            link = ["gcc", "-shared", "-o", shared, "-Wl,--whole-archive", archive, "-Wl,--no-whole-archive"]
             if subprocess.run(link, stdout=log, stderr=log, check=False).returncode != 0:
                 raise Wrong("gcc could not link %s; %s has what it said" % (archive, log.name))
     finally:
         progress.end()
-    shutil.copy2(ROOT / "target" / "bin" / "vigambul", PROGRAM)
+    shutil.copy2(ROOT / "target" / "bin" / "vigambul", program)
+    # Each is put in its place in one step: a call that uses the old one meanwhile keeps that.
+    os.replace(shared, SHARED)
+    os.replace(program, PROGRAM)
     STAMP.write_text(fingerprint + "\n")
 
 
 @functools.cache
 def ensure():
     """Builds the library and the program unless they are there and as new as their sources; looks once in a process."""
-    there = SHARED.is_file() and PROGRAM.is_file()
-    if there and STAMP.is_file() and STAMP.read_text().strip() == sources():
+    if _is_built():
         return
-    if there and shutil.which("rt") is None:
+    if SHARED.is_file() and PROGRAM.is_file() and shutil.which("rt") is None:
         print("vig: the sources are newer than the built library, and rt is not on the path: the library is used as it is", file=sys.stderr)
         return
     _build()
@@ -145,4 +174,7 @@ def program():
 
 
 if __name__ == "__main__":
-    ensure()
+    try:
+        ensure()
+    except Wrong as wrong:
+        sys.exit("vig: %s" % wrong)

@@ -5,7 +5,7 @@ import re
 from dataclasses import dataclass
 from fractions import Fraction
 
-_NUMBER = r"([0-9]+(?:\.[0-9]+)?)\s*"
+_NUMBER = r"([0-9]{1,15}(?:\.[0-9]{1,15})?)\s*"
 _TIME = re.compile(_NUMBER + r"(ps|ns|us)\Z")
 _FREQUENCY = re.compile(_NUMBER + r"(kHz|MHz|GHz)\Z")
 # In picoseconds.

@@ -7,6 +7,11 @@ from pathlib import Path
 from .errors import Refused, Wrong
 from .formats import REFUSALS, words_of
 from .policies import Names, Policy, names_beside, policy_of
+from .words import policy_refusal_words
+
+
+# A name of a file need not be text; where it stands in a text, it is escaped.
+ESCAPED = "backslashreplace"
 
 
 def read_file(path):
@@ -29,7 +34,7 @@ def write_file(path, data):
         if isinstance(data, bytes):
             path.write_bytes(data)
         else:
-            path.write_text(data, encoding="utf-8")
+            path.write_text(data, encoding="utf-8", errors=ESCAPED)
     except OSError as error:
         raise Wrong("%s: %s" % (path, error.strerror)) from None
 
@@ -38,7 +43,7 @@ def write_file(path, data):
 def writing(path):
     """A file that is written bit by bit, as text."""
     try:
-        with open(path, "w", encoding="utf-8") as file:
+        with open(path, "w", encoding="utf-8", errors=ESCAPED) as file:
             yield file
     except OSError as error:
         raise Wrong("%s: %s" % (path, error.strerror)) from None
@@ -69,10 +74,6 @@ def folder_at(path):
     return Folder(path, policy_bytes, trace, left_over, names_beside(path / "policy.bin"))
 
 
-def refusal_words(number):
-    return "policy refused %d: %s. Usual cause: %s. To mend: %s." % (number, REFUSALS[number].when, REFUSALS[number].cause, REFUSALS[number].mend)
-
-
 @dataclass
 class Ran:
     """A folder's run by the proved library: its policy, and the log, four numbers for each trace number."""
@@ -94,7 +95,7 @@ def run_folder(library, folder):
     """Runs a folder's trace under its policy; a policy that is refused ends the command."""
     status, log = library.run(folder.policy_bytes, folder.trace)
     if status != 0:
-        raise Refused("%s: %s" % (folder.path / "policy.bin", refusal_words(status)))
+        raise Refused("%s: %s" % (folder.path / "policy.bin", policy_refusal_words(status)))
     return Ran(folder, policy_of(folder.policy_bytes), log)
 
 

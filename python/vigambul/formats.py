@@ -14,7 +14,6 @@ COLUMN = 1 << 30
 # The bits that an offer has: 31, the class's, the kind's, the bank's and the tag's.
 OFFER_BITS = OFFER | 0x1F << 24 | 0x3 << 20 | 0xF << 16 | 0xFFFF
 ELIDED = 256
-HIDDEN = 512
 
 # The numbers of an offer whose class has all its places taken, and of a tick after the last one.
 QUEUE_FULL = 11
@@ -27,14 +26,14 @@ KINDS = ("read", "write")
 class Request(NamedTuple):
     """What an offer, a command and an answer carry."""
 
-    owner: int
+    class_: int
     kind: int
     bank: int
     tag: int
 
     @property
     def word(self):
-        return OFFER | self.owner << 24 | self.kind << 20 | self.bank << 16 | self.tag
+        return OFFER | self.class_ << 24 | self.kind << 20 | self.bank << 16 | self.tag
 
 
 def class_of(word):

@@ -38,8 +38,10 @@ def lines_of(trace, log):
     return zip(trace, numbers, numbers, numbers, numbers)
 
 
-def ticks_of(trace, log):
-    """How many ticks were made: all but those refused, which have a number of their own."""
+def ticks_of(trace, log, end=None):
+    """How many ticks were made, in all or before a place: all but those refused, which have a number of their own."""
+    if end is not None:
+        trace, log = trace[:end], log[: 4 * end]
     return trace.count(0) - log[0::4].count(TICKS_OVER)
 
 
@@ -131,9 +133,9 @@ class Replay:
         return self
 
     def _offer(self, word):
-        owner = class_of(word)
-        self._waiting[owner].append((word, self.cycle))
-        self.lengths[owner] += 1
+        number = class_of(word)
+        self._waiting[number].append((word, self.cycle))
+        self.lengths[number] += 1
         self.taken(word)
 
     def _start(self, turn):
@@ -151,12 +153,12 @@ class Replay:
         if is_column(command):
             self.column(command & ~COLUMN)
             return
-        owner = class_of(command)
-        queue = self._waiting[owner]
+        number = class_of(command)
+        queue = self._waiting[number]
         # Of equal requests the oldest goes first, whichever of the queue's may go.
         place = next(place for place, (word, _) in enumerate(queue) if word == command)
         request = queue[place]
         del queue[place]
-        self.lengths[owner] -= 1
+        self.lengths[number] -= 1
         self._flying.append(request)
         self.activated(*request)

@@ -91,7 +91,7 @@ def _entry(line, path, number):
     try:
         value = json.loads(line)
         fault = _fault(value)
-    except ValueError:
+    except (ValueError, RecursionError):
         fault = "not JSON"
     if fault:
         raise Wrong("%s, line %d: this line of the ledger is damaged (%s); mend it or take it out, nothing was added" % (path, number, fault))

@@ -11,6 +11,14 @@ MANY = 1 << 15
 LINE_BYTES = 36
 LINE = re.compile(rb"([0-9A-Fa-f]{8}) ([0-9A-Fa-f]{8}) ([0-9A-Fa-f]{8}) ([0-9A-Fa-f]{8})[ \t\r]*\n?\Z")
 CUT_TRACE = b"trace ends inside a word"
+# What stands in place of a log where the policy is refused.
+REFUSED = re.compile(rb"policy refused ([1-9][0-9]?)[ \t\r]*\n?\Z")
+
+
+def refusal_of(line):
+    """The number that a line says the policy is refused with, or None where it says no such thing."""
+    refused = REFUSED.match(line)
+    return int(refused[1]) if refused else None
 
 
 def _plain(lines):

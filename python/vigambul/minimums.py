@@ -1,6 +1,8 @@
 """What a minimum does and does not guarantee under the rules in force: document 01, where minimums act only through caps. The one place that says it: a request that changes
 the rules changes this text."""
 
+from .words import counted
+
 
 def past_below(policy, number):
     """How many turns of an epoch the classes strictly below a class cannot take. Each of them has something above it, so it takes no more turns than its cap."""
@@ -32,8 +34,8 @@ def class_words(policy, names, number):
     caps = [policy.cap(other) for other in below]
     added = str(caps[0]) if len(below) == 1 else "%s = %d" % (" + ".join(map(str, caps)), sum(caps))
     if past == 0:
-        return head + "no turn is kept for it: the caps below it come to %s, and an epoch has %d turns" % (added, policy.epoch)
-    kept = "the caps below it come to %s, so %d of %d turns at least are left" % (added, past, policy.epoch)
+        return head + "no turn is kept for it: the caps below it come to %s, and an epoch has %s" % (added, counted(policy.epoch, "turn"))
+    kept = "the caps below it come to %s, so %d of %s at least are left" % (added, past, counted(policy.epoch, "turn"))
     if others:
         return head + "%s; marks share these with %s, and the minimum does not say how many are whose" % (kept, ", ".join(names.of(other) for other in others))
     sure = sure_turns(policy, number)

@@ -3,7 +3,8 @@
 The drawing is made in the usual steps for layered graphs. A class's layer is the longest way up to it; a line that passes layers gets a place in each of them, so that it runs
 between the boxes; places are put in an order with few crossings, and then moved sideways towards what they are joined to, as far as the boxes leave room."""
 
-from xml.sax.saxutils import escape
+from .svg import coordinate, element, file_of, text
+from .words import counted
 
 # Sizes in pixels.
 LETTER = 10.0
@@ -17,6 +18,13 @@ BETWEEN = 44
 MARGIN = 24
 PLACE = 14
 CAPTION = 44
+LEAST_FILL = "#DCEBF7"
+STYLE = """
+text { font: 12px 'DejaVu Sans', Verdana, sans-serif; text-anchor: middle; fill: #33475B }
+text.name { font-size: 14px; font-weight: bold; fill: #000000 }
+.box { stroke: #33475B; stroke-width: 1.5 }
+polyline { fill: none; stroke: #33475B; stroke-width: 1.5; stroke-linejoin: round }
+"""
 
 
 class Place:
@@ -163,10 +171,6 @@ def _place(by_layer):
             _settle(layer, wanted)
 
 
-def _number(value):
-    return ("%.1f" % value).rstrip("0").rstrip(".")
-
-
 class _Drawing:
     """The places put on paper, layer 0 at the bottom."""
 
@@ -180,7 +184,7 @@ class _Drawing:
         for place in places:
             place.x += MARGIN - left
         self.caption = "Flows go upwards along the lines: a class may flow to itself and to all above it."
-        self.title = "Epoch of %d turns, %d %s" % (policy.epoch, policy.classes, "class" if policy.classes == 1 else "classes")
+        self.title = "Epoch of %s, %s" % (counted(policy.epoch, "turn"), counted(policy.classes, "class", "classes"))
         widest = max(place.x + place.width / 2 for place in places) + MARGIN
         self.width = max(widest, 2 * MARGIN + SMALL_LETTER * len(self.caption))
         for place in places:
@@ -201,40 +205,29 @@ class _Drawing:
         for place in way[1:-1]:
             points += [(place.x, self.top(place.layer) + self.box_height), (place.x, self.top(place.layer))]
         points.append((way[-1].x, self.top(way[-1].layer) + self.box_height))
-        path = " ".join("%s,%s" % (_number(x), _number(y)) for x, y in points)
-        return '<polyline points="%s"/>' % path
+        return element("polyline", points=" ".join("%s,%s" % (coordinate(x), coordinate(y)) for x, y in points))
 
     def box(self, place):
         """A class's box, with its name, number, minimum and cap."""
         name, small = place.lines
-        left, top = place.x - place.width / 2, self.top(place.layer)
-        fill = "#dcebf7" if place.number == self.policy.least else "#ffffff"
-        rect = '<rect x="%s" y="%s" width="%s" height="%s" rx="5" fill="%s" stroke="#33475b" stroke-width="1.5"/>'
-        parts = [rect % (_number(left), _number(top), _number(place.width), _number(self.box_height), fill)]
-        used = NAME_LINE * len(name) + SMALL_LINE * len(small)
-        y = top + (self.box_height - used) / 2
+        top = self.top(place.layer)
+        fill = LEAST_FILL if place.number == self.policy.least else "#FFFFFF"
+        parts = [element("rect", kind="box", x=place.x - place.width / 2, y=top, width=place.width, height=self.box_height, rx=5, fill=fill)]
+        y = top + (self.box_height - NAME_LINE * len(name) - SMALL_LINE * len(small)) / 2
         for line in name:
-            parts.append('<text class="name" x="%s" y="%s">%s</text>' % (_number(place.x), _number(y + NAME_LINE - 4), escape(line)))
             y += NAME_LINE
+            parts.append(text(place.x, y - 4, line, kind="name"))
         for line in small:
-            parts.append('<text x="%s" y="%s">%s</text>' % (_number(place.x), _number(y + SMALL_LINE - 4), escape(line)))
             y += SMALL_LINE
-        return "<g>%s</g>" % "".join(parts)
+            parts.append(text(place.x, y - 4, line))
+        return element("g", "".join(parts))
 
     def svg(self):
-        width, height, middle = _number(self.width), _number(self.height), _number(self.width / 2)
-        lines = ['<?xml version="1.0" encoding="UTF-8"?>']
-        lines.append('<svg xmlns="http://www.w3.org/2000/svg" width="%s" height="%s" viewBox="0 0 %s %s">' % (width, height, width, height))
-        lines.append("<title>%s</title>" % escape(self.title))
-        lines.append("<style>text { font: 12px 'DejaVu Sans', Verdana, sans-serif; text-anchor: middle; fill: #33475b }")
-        lines.append("text.name { font-size: 14px; font-weight: bold; fill: #000000 }</style>")
-        lines.append('<rect width="100%" height="100%" fill="#ffffff"/>')
-        lines.append('<g fill="none" stroke="#33475b" stroke-width="1.5" stroke-linejoin="round">')
-        lines += [self.line(way) for way in self.edges] + ["</g>"]
-        lines += [self.box(place) for layer in self.by_layer for place in layer if place.number is not None]
-        lines.append('<text x="%s" y="%s">%s</text>' % (middle, _number(self.height - MARGIN - 14), escape(self.title)))
-        lines.append('<text x="%s" y="%s">%s</text>' % (middle, _number(self.height - MARGIN + 4), escape(self.caption)))
-        return "\n".join(lines + ["</svg>"]) + "\n"
+        middle, bottom = self.width / 2, self.height - MARGIN
+        parts = [self.line(way) for way in self.edges]
+        parts += [self.box(place) for layer in self.by_layer for place in layer if place.number is not None]
+        parts += [text(middle, bottom - 14, self.title), text(middle, bottom + 4, self.caption)]
+        return file_of(self.width, self.height, self.title, STYLE, parts)
 
 
 def svg_of(policy, names):

@@ -3,12 +3,12 @@ it reads in print and without colours; the colours are those of Okabe and Ito, w
 
 from collections import defaultdict, deque
 from dataclasses import dataclass
-from xml.sax.saxutils import escape
 
 from .errors import Wrong
 from .formats import class_of, is_offer
 from .history import Replay
-from .words import refusal_words, request_words, trace_words
+from .svg import coordinate, element, file_of, text, title_of
+from .words import counted, refusal_words, request_words, trace_words
 
 # Turns that are shown where no range is asked for.
 TURNS_SHOWN = 40
@@ -103,9 +103,9 @@ class Events(Replay):
             self.marks[kind][number, self.cycle].append(words())
 
     def refused(self, word, status):
-        owner = class_of(word)
-        known = is_offer(word) and owner < self.policy.classes
-        self._mark("refusal", owner if known else None, lambda: "%s: %s" % (trace_words(word, self.names), refusal_words(status)))
+        number = class_of(word)
+        known = is_offer(word) and number < self.policy.classes
+        self._mark("refusal", number if known else None, lambda: "%s: %s" % (trace_words(word, self.names), refusal_words(status)))
 
     def taken(self, word):
         self._mark("offer", class_of(word), lambda: trace_words(word, self.names))
@@ -156,24 +156,6 @@ def rows_of(policy):
     return sorted(range(policy.classes), key=lambda number: (len(policy.below(number)), number), reverse=True)
 
 
-def _number(value):
-    """A coordinate: at most one digit after the point."""
-    return ("%.1f" % value).removesuffix(".0")
-
-
-def _element(name, content=None, **attributes):
-    """An element; `kind` is its class attribute, and underscores in names are hyphens."""
-    parts = [name]
-    for key, value in attributes.items():
-        key = "class" if key == "kind" else key.replace("_", "-")
-        parts.append('%s="%s"' % (key, escape(value, {'"': "&quot;"}) if isinstance(value, str) else _number(value)))
-    return "<%s/>" % " ".join(parts) if content is None else "<%s>%s</%s>" % (" ".join(parts), content, name)
-
-
-def _text(x, y, text, **attributes):
-    return _element("text", escape(text), x=x, y=y, **attributes)
-
-
 def _shape(kind, x, y, size):
     """The path of a mark around a point, with half its width."""
     if kind == "offer":
@@ -183,15 +165,15 @@ def _shape(kind, x, y, size):
     else:
         size *= 0.9
         strokes = ((x - size, y - size, x + size, y + size), (x - size, y + size, x + size, y - size))
-        return " ".join("M%s %sL%s %s" % tuple(map(_number, stroke)) for stroke in strokes)
-    return "M" + "L".join("%s %s" % (_number(a), _number(b)) for a, b in corners) + "Z"
+        return " ".join("M%s %sL%s %s" % tuple(map(coordinate, stroke)) for stroke in strokes)
+    return "M" + "L".join("%s %s" % (coordinate(a), coordinate(b)) for a, b in corners) + "Z"
 
 
 def _mark(kind, x, y, size, words=None):
-    content = None if words is None else _element("title", escape(words))
+    content = None if words is None else title_of(words)
     if kind == "answer":
-        return _element("circle", content, kind=kind, cx=x, cy=y, r=size)
-    return _element("path", content, kind=kind, d=_shape(kind, x, y, size))
+        return element("circle", content, kind=kind, cx=x, cy=y, r=size)
+    return element("path", content, kind=kind, d=_shape(kind, x, y, size))
 
 
 def _step(least):
@@ -238,31 +220,31 @@ class Drawing:
     def _labels(self):
         for place, number in enumerate(self.rows):
             if place % 2 == 0:
-                self.parts.append(_element("rect", kind="stripe", x=MARGIN, y=self.y(number), width=self.right - MARGIN, height=ROW))
+                self.parts.append(element("rect", kind="stripe", x=MARGIN, y=self.y(number), width=self.right - MARGIN, height=ROW))
             middle = self.y(number) + BAR_Y + BAR / 2
-            self.parts.append(_text(MARGIN + 6, middle, "other calls" if number is None else self.names.of(number), kind="name"))
-            self.parts.append(_text(MARGIN + 6, middle + 15, self._about(number)))
+            self.parts.append(text(MARGIN + 6, middle, "other calls" if number is None else self.names.of(number), kind="name"))
+            self.parts.append(text(MARGIN + 6, middle + 15, self._about(number)))
 
     def _boundaries(self):
         """Lines where turns start, dashed where an epoch does, with their numbers: all of them, or every so many as there is room."""
         turn, epoch = self.policy.turn, self.policy.epoch
         self._numbers(TURN_Y, turn, "turns of %d cycles" % turn, "")
-        step = self._numbers(EPOCH_Y, turn * epoch, "epochs of %d turn%s" % (epoch, "s" * (epoch > 1)), "epoch ")
+        step = self._numbers(EPOCH_Y, turn * epoch, "epochs of %s" % counted(epoch, "turn"), "epoch ")
         for number in range(-(-self.first // turn), self.last // turn + 1):
             x, top = self.x(number * turn), ROWS_Y - 4
             if number % epoch == 0:
                 top = (EPOCH_Y if number // epoch % step == 0 else TURN_Y) - 10
-            self.parts.append(_element("line", kind="boundary" if number % epoch else "epoch", x1=x, y1=top, x2=x, y2=self.bottom))
+            self.parts.append(element("line", kind="boundary" if number % epoch else "epoch", x1=x, y1=top, x2=x, y2=self.bottom))
 
     def _numbers(self, y, length, label, word):
         """The numbers of turns or epochs where they start, or at the left edge; hands back which are written."""
-        self.parts.append(_text(MARGIN + 6, y, label))
+        self.parts.append(text(MARGIN + 6, y, label))
         wide = SMALL_CHARACTER * len(word + str(self.last // length)) + 8
         step = _step(wide / (length * self.wide))
         for number in range(self.first // length, self.last // length + 1):
             begins, ends = max(self.x(number * length), self.left), self.x((number + step) * length)
             if number % step == 0 and (ends - begins >= wide or ends > self.right):
-                self.parts.append(_text(begins + 4, y, word + str(number)))
+                self.parts.append(text(begins + 4, y, word + str(number)))
         return step
 
     def _names_again(self):
@@ -271,26 +253,26 @@ class Drawing:
         for turn in range(self.first // self.policy.turn + every, self.last // self.policy.turn, every):
             for number in self.rows:
                 if number is not None:
-                    self.parts.append(_text(self.x(turn * self.policy.turn) + 4, self.y(number) + 18, self.names.of(number), kind="again"))
+                    self.parts.append(text(self.x(turn * self.policy.turn) + 4, self.y(number) + 18, self.names.of(number), kind="again"))
 
     def _bar(self, bar):
         first, last = max(bar.first, self.first), min(bar.last, self.last)
         y = self.y(bar.owner) + BAR_Y
         words = "turn %d, cycles %d to %d: %s, dead time %s" % (bar.number, bar.first, bar.last, self.names.of(bar.owner), "dropped" if bar.elided else "kept")
-        title = _element("title", escape(words))
-        self.parts.append(_element("rect", title, kind="turn", x=self.x(first), y=y, width=self.wide * (last - first + 1), height=BAR))
+        title = title_of(words)
+        self.parts.append(element("rect", title, kind="turn", x=self.x(first), y=y, width=self.wide * (last - first + 1), height=BAR))
         dead = max(first, bar.dead)
         if not bar.elided and dead <= last:
-            self.parts.append(_element("rect", title, kind="dead", x=self.x(dead), y=y, width=self.wide * (last - dead + 1), height=BAR))
+            self.parts.append(element("rect", title, kind="dead", x=self.x(dead), y=y, width=self.wide * (last - dead + 1), height=BAR))
 
     def _flight(self, flight):
         """A line from the activate's place down and on to the answer's, as far as the range goes."""
         y = self.y(flight.owner)
         start = self.middle(flight.activated) if flight.activated >= self.first else self.left
         end = self.middle(flight.answered) if flight.answered is not None and flight.answered <= self.last else self.right
-        down = "V%s" % _number(y + ANSWER_Y) if flight.activated >= self.first else ""
+        down = "V%s" % coordinate(y + ANSWER_Y) if flight.activated >= self.first else ""
         top = y + BAR_Y + BAR / 2 if down else y + ANSWER_Y
-        self.parts.append(_element("path", kind="flight", d="M%s %s%sH%s" % (_number(start), _number(top), down, _number(end))))
+        self.parts.append(element("path", kind="flight", d="M%s %s%sH%s" % (coordinate(start), coordinate(top), down, coordinate(end))))
 
     def _lane(self, kind, height):
         """The marks of a kind. Where several stand for one cycle, their number is written beside the mark if there is room before the next."""
@@ -303,15 +285,15 @@ class Drawing:
                 self.parts.append(_mark(kind, x, y, self.size, "\n".join("cycle %d: %s" % (cycle, word) for word in words)))
                 needed = 2 * self.size + 4 + SMALL_CHARACTER * len(str(len(words)))
                 if len(words) > 1 and (following is None or self.wide * (following - cycle) >= needed):
-                    self.parts.append(_text(x + self.size + 2, y + 4, str(len(words)), kind="count"))
+                    self.parts.append(text(x + self.size + 2, y + 4, str(len(words)), kind="count"))
 
     def _axis(self):
-        self.parts.append(_element("line", kind="axis", x1=self.left, y1=self.bottom, x2=self.right, y2=self.bottom))
+        self.parts.append(element("line", kind="axis", x1=self.left, y1=self.bottom, x2=self.right, y2=self.bottom))
         step = _step((SMALL_CHARACTER * len(str(self.last)) + 30) / self.wide)
         for cycle in range(-(-self.first // step) * step, self.last + 1, step):
-            self.parts.append(_element("line", kind="axis", x1=self.middle(cycle), y1=self.bottom, x2=self.middle(cycle), y2=self.bottom + 5))
-            self.parts.append(_text(self.middle(cycle), self.bottom + 18, str(cycle), text_anchor="middle"))
-        self.parts.append(_text(MARGIN + 6, self.bottom + 18, "cycle"))
+            self.parts.append(element("line", kind="axis", x1=self.middle(cycle), y1=self.bottom, x2=self.middle(cycle), y2=self.bottom + 5))
+            self.parts.append(text(self.middle(cycle), self.bottom + 18, str(cycle), text_anchor="middle"))
+        self.parts.append(text(MARGIN + 6, self.bottom + 18, "cycle"))
 
     def _legend(self):
         """What each sign means, one after the other."""
@@ -320,12 +302,12 @@ class Drawing:
             if kind in MARKS:
                 self.parts.append(_mark(kind, x + 8, y - 4, 4.5))
             elif kind == "epoch":
-                self.parts.append(_element("line", kind=kind, x1=x + 8, y1=y - 13, x2=x + 8, y2=y + 5))
+                self.parts.append(element("line", kind=kind, x1=x + 8, y1=y - 13, x2=x + 8, y2=y + 5))
             elif kind == "flight":
-                self.parts.append(_element("path", kind=kind, d="M%s %sH%s" % (_number(x), _number(y - 4), _number(x + 18))))
+                self.parts.append(element("path", kind=kind, d="M%s %sH%s" % (coordinate(x), coordinate(y - 4), coordinate(x + 18))))
             else:
-                self.parts.append(_element("rect", kind=kind, x=x, y=y - 12, width=20, height=14))
-            self.parts.append(_text(x + 26, y, words))
+                self.parts.append(element("rect", kind=kind, x=x, y=y - 12, width=20, height=14))
+            self.parts.append(text(x + 26, y, words))
             x += 26 + SMALL_CHARACTER * len(words) + 22
         return x
 
@@ -344,17 +326,8 @@ class Drawing:
         times = "Dead time %d cycles, answer %d cycles after its activate." % (self.policy.dead, self.policy.answer_delay)
         width = max(self.right + MARGIN + self.wide, self._legend(), 2 * MARGIN + TITLE_CHARACTER * len(head))
         height = self.bottom + AXIS + LEGEND
-        return "\n".join(
-            [
-                '<?xml version="1.0" encoding="UTF-8"?>',
-                '<svg xmlns="http://www.w3.org/2000/svg" width="%s" height="%s" viewBox="0 0 %s %s">' % ((_number(width), _number(height)) * 2),
-                _element("title", escape(head)),
-                "<style>%s</style>" % STYLE,
-                "<defs>%s</defs>" % HATCH,
-                _element("rect", width=width, height=height, fill="#FFFFFF"),
-                _text(MARGIN + 6, TITLE_Y, head, kind="title"),
-                _text(MARGIN + 6, SUBTITLE_Y, "A row for each class; what may flow to a class stands below it. " + times),
-                *self.parts,
-                "</svg>\n",
-            ]
+        words = (
+            text(MARGIN + 6, TITLE_Y, head, kind="title"),
+            text(MARGIN + 6, SUBTITLE_Y, "A row for each class; what may flow to a class stands below it. " + times),
         )
+        return file_of(width, height, head, STYLE, (*words, *self.parts), HATCH)

@@ -102,6 +102,7 @@ def policy_of(data):
     return Policy(rows, data[turns_at], list(data[turns_at + 1 : timing_at]), list(data[timing_at : timing_at + len(TIMING)]))
 
 
+NUMBERS = tuple(map(str, range(CLASSES)))
 NAME = re.compile(r"[A-Za-z_][A-Za-z0-9_-]{0,31}\Z")
 
 
@@ -115,12 +116,10 @@ class Names:
         return self.by_number.get(number, "class %d" % number)
 
     def number(self, name, classes=CLASSES):
-        """The class of a name, or of a number written out."""
-        for number, known in self.by_number.items():
-            if known == name:
+        """The class of a name as `of` gives it, or of a number written out."""
+        for number in range(classes):
+            if name in (self.of(number), str(number)):
                 return number
-        if name.isdecimal() and int(name) < classes:
-            return int(name)
         known = ", ".join(self.of(number) for number in range(classes))
         raise Wrong("%s: no class of this policy; its classes are %s" % (name, known))
 
@@ -141,7 +140,7 @@ def names_beside(policy_path):
         words = line.split()
         if not words or words[0].startswith("#"):
             continue
-        if len(words) != 2 or not words[0].isdecimal() or int(words[0]) >= CLASSES or not NAME.match(words[1]):
+        if len(words) != 2 or words[0] not in NUMBERS or not NAME.match(words[1]):
             raise Wrong("%s, line %d: %r is not a class number and its name, as in '0 base'" % (path, place, line))
         number, name = int(words[0]), words[1]
         if number in names.by_number or name in names.by_number.values():

@@ -58,11 +58,11 @@ class _Reader:
         """A whole number in a range, or None with a mistake."""
         name, allowed = ".".join(path), "a whole number, %d to %d" % (lowest, highest)
         if isinstance(value, str) and value.strip().isdecimal():
-            mend = "write it without quotes: %s = %d" % (path[-1], int(value))
+            mend = "write it without quotes: %s = %s" % (path[-1], value.strip().lstrip("0") or "0")
         if isinstance(value, bool) or not isinstance(value, int):
             self.mistakes.add(path, "%s = %s is not a whole number" % (name, value_words(value)), allowed, mend)
         elif not lowest <= value <= highest:
-            self.mistakes.add(path, "%s = %d is out of range" % (name, value), allowed, mend)
+            self.mistakes.add(path, "%s = %s is out of range" % (name, value_words(value)), allowed, mend)
         else:
             return value
         return None
@@ -208,8 +208,9 @@ class _Reader:
             if not isinstance(table, dict):
                 self.mistakes.add(path, "class.%s = %s is not a table" % (name, value_words(table)), "a table [class.%s]" % name, "write [class.%s], with its keys below" % name)
                 continue
-            self.mistakes.unknown_keys(path, table, CLASS_KEYS, "in a class")
-            above[name] = self.above(name, table.get("above", []), classes)
+            meant = self.mistakes.unknown_keys(path, table, CLASS_KEYS, "in a class")
+            # A mistyped `above` does not make this a class with nothing below.
+            above[name] = [None] if "above" in meant else self.above(name, table.get("above", []), classes)
             minimum = self.whole(path + ("minimum",), table.get("minimum", 0), 0, LONGEST_EPOCH, "give the minimum in turns of an epoch")
             if minimum is not None:
                 minimums[name] = minimum

@@ -2,14 +2,14 @@
 
 from functools import lru_cache
 
-from .formats import is_offer, is_tick, request_of, words_of
+from .formats import class_of, is_offer, is_tick, words_of
 
 
 def is_seen(policy, seen_by):
     """A test of trace numbers: is it left for a class? Struck out are malformed words and offers whose class does not exist or may not flow to it."""
     flowing = {number for number in range(policy.classes) if policy.flows(number, seen_by)}
     # Ticks, the most frequent by far, are found among the answers that are kept.
-    return lru_cache(1 << 12)(lambda word: is_tick(word) or is_offer(word) and request_of(word).owner in flowing)
+    return lru_cache(1 << 12)(lambda word: is_tick(word) or is_offer(word) and class_of(word) in flowing)
 
 
 def purge(trace, policy, seen_by):

@@ -5,18 +5,24 @@
 
 Empty lines and lines that begin with # say nothing. A line of neither kind is an error with its number."""
 
+import codecs
 import re
 from itertools import islice
 from pathlib import Path
 
 from .errors import Wrong
 from .formats import HEADER, LAST_CYCLE, words_of
-from .lines import CUT_TRACE, LINE, MANY, numbers_of
+from .lines import CUT_TRACE, LINE, MANY, numbers_of, refusal_of
 
-REFUSED = re.compile(rb"policy refused ([1-9][0-9]?)\Z")
 CARRIED = re.compile(rb"(command|answer)[ \t]+([0-9]{1,10})[ \t]+(?:0[xX])?([0-9A-Fa-f]{1,8})\Z")
 CYCLES = re.compile(rb"cycles[ \t]+([0-9]{1,10})\Z")
 FORMS = "a recorded log begins with the header '%s', with 'policy refused N', or with 'command CYCLE WORD', 'answer CYCLE WORD' or 'cycles N'" % HEADER
+
+
+def _lines(file):
+    """The lines of a file with their numbers, without the mark that some editors put before a text in UTF-8."""
+    for number, line in enumerate(file, 1):
+        yield number, line.removeprefix(codecs.BOM_UTF8) if number == 1 else line
 
 
 def _says_nothing(line):
@@ -79,7 +85,7 @@ class WireLog:
         self.path, self.cycles = path, None
         self.command, self.answer = words_of(b"")[0], words_of(b"")[0]
         with open(path, "rb") as file:
-            for number, line in enumerate(file, 1):
+            for number, line in _lines(file):
                 if not _says_nothing(line):
                     self._take(line, number)
         if self.cycles is None:
@@ -124,7 +130,7 @@ def recorded_at(path):
         raise Wrong("%s: a folder, where a recorded log is wanted" % path)
     try:
         with open(path, "rb") as file:
-            said = ((line, number) for number, line in enumerate(file, 1) if not _says_nothing(line))
+            said = ((line, number) for number, line in _lines(file) if not _says_nothing(line))
             line, number = next(said, (None, 0))
             if line is None:
                 raise Wrong("%s: nothing stands in it; %s" % (path, FORMS))
@@ -141,9 +147,9 @@ def _told_apart(path, line, number, later):
         return LineLog(path, number)
     if CARRIED.match(text) or CYCLES.match(text):
         return WireLog(path)
-    refused = REFUSED.match(text)
-    if not refused:
+    refused = refusal_of(text)
+    if refused is None:
         raise Wrong("%s, line %d: %s; %s" % (path, number, _shown(line), FORMS))
     for rest, place in later:
         raise Wrong("%s, line %d: %s stands after the refusal of the policy, which is a whole log" % (path, place, _shown(rest)))
-    return RefusedLog(int(refused[1]))
+    return RefusedLog(refused)

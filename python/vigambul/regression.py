@@ -1,6 +1,7 @@
 """Many folders run by the proved program, each held against its expected.txt, over all cores. The runs share nothing, so a list can be cut into parts for several machines."""
 
 import csv
+import glob
 import io
 import os
 import subprocess
@@ -17,11 +18,11 @@ from xml.etree import ElementTree
 from .errors import Wrong
 from .folders import read_file
 from .formats import REFUSALS, words_of
-from .lines import CUT_TRACE, MANY, numbers_of
+from .history import ticks_of
+from .lines import CUT_TRACE, MANY, numbers_of, refusal_of
 
 EXPECTED = "expected.txt"
 NEEDED = ("policy.bin", "trace.bin")
-REFUSED = b"policy refused "
 # Seconds between two words on how far it is, where standard error is no terminal.
 NOW_AND_THEN = 10
 BAR = 30
@@ -59,11 +60,12 @@ class Row:
 
 
 def folders_of(path):
-    """The folders of a list, as pairs of what the list calls them and where they are: the lines of a file, or the folders with a policy.bin in a folder. All that is missing
-    is told at once, before anything runs."""
+    """The folders of a list, as pairs of what the list calls them and where they are: the lines of a file, the folders with a policy.bin in a folder, or that folder if it has
+    one itself. All that is missing is told at once, before anything runs."""
     path = Path(path)
     if path.is_dir():
-        found = [(str(folder), folder) for folder in sorted(path.iterdir()) if (folder / "policy.bin").is_file()]
+        inside = [path] if _is_run(path) else filter(_is_run, sorted(path.iterdir()))
+        found = [(str(folder), folder) for folder in inside]
         faults = [] if found else ["%s: no folder with a policy.bin in it" % path]
         faults += [fault for name, folder in found if (fault := _fault(name, folder))]
     else:
@@ -96,10 +98,13 @@ def _named(name, room):
     """The folders that a line names: one, or, of a pattern with *, ? or [, those with a policy.bin."""
     if not any(sign in name for sign in "*?["):
         return [(name, room / name)]
-    if Path(name).is_absolute():
-        room, name = Path("/"), name[1:]
-        return [(str(folder), folder) for folder in sorted(room.glob(name)) if (folder / "policy.bin").is_file()]
-    return [(os.path.relpath(folder, room), folder) for folder in sorted(room.glob(name)) if (folder / "policy.bin").is_file()]
+    folders = [Path(place) for place in glob.glob(str(Path(glob.escape(str(room))) / name), recursive=True)]
+    called = str if Path(name).is_absolute() else lambda folder: os.path.relpath(folder, room)
+    return [(called(folder), folder) for folder in sorted(set(folders)) if _is_run(folder)]
+
+
+def _is_run(folder):
+    return (folder / "policy.bin").is_file()
 
 
 def _fault(name, folder):
@@ -133,6 +138,8 @@ def run_one(program, name, folder):
         row.verdict, row.passed = _verdict(row, run.returncode)
     except OSError as error:
         row.verdict = "error: %s" % error.strerror
+    except ValueError as error:
+        row.verdict = "error: %s" % error
     row.seconds = time.monotonic() - began
     return row
 
@@ -146,9 +153,9 @@ def _follow(row, out, expected, trace):
             _note_difference(row, got, wanted, read)
         if not got:
             return
-        if read == 0 and got[0].startswith(REFUSED):
-            row.refusal = int(got[0][len(REFUSED) :])
-        elif row.refusal is None:
+        if read == 0:
+            row.refusal = refusal_of(got[0])
+        if row.refusal is None:
             _count(row, got[1:] if read == 0 else got, trace)
         read += len(got)
 
@@ -169,14 +176,16 @@ def _shown(lines, place):
 
 
 def _count(row, lines, trace):
-    """Counts the calls of log lines: a tick is made or gets 12, which nothing else gets; an offer is taken or refused."""
+    """Counts the calls of log lines: ticks that were made, offers that were taken, and what was refused."""
     if lines and lines[-1].strip() == CUT_TRACE:
         lines = lines[:-1]
     numbers = numbers_of(lines)
+    if numbers is None:
+        raise ValueError("the program was cut short inside a line")
     words, _ = words_of(trace.read(4 * len(lines)))
     statuses = numbers[::4]
     done = statuses.count(0)
-    ticks = words.count(0) - statuses.count(12)
+    ticks = ticks_of(words, numbers)
     row.ticks += ticks
     row.taken += done - ticks
     row.refused += len(statuses) - done

@@ -6,6 +6,7 @@ import json
 
 from .formats import QUEUE_FULL, REFUSALS
 from .tables import aligned, grouped
+from .words import counted
 
 # The table's columns, and the groups that they stand in.
 GROUPS = (("", 1), ("offers", 2), ("", 1), ("waits in cycles", 4), ("turns", 2), ("dead times", 1), ("", 1), ("turns in a whole epoch", 4))
@@ -32,10 +33,6 @@ CSV_HEAD = (
     "minimum",
     "cap",
 )
-
-
-def plural(count, one, several=None):
-    return "%d %s" % (count, one if count == 1 else several or one + "s")
 
 
 def _shown(value, form="%d"):
@@ -74,13 +71,13 @@ def _row(figures, names, number):
 
 def _run_lines(figures, name):
     """What is said of a whole run."""
-    epochs = "%s of %s" % (plural(figures.epochs, "whole epoch"), plural(figures.policy.epoch, "turn"))
-    lines = ["%s: %s, %s, %s" % (name, plural(figures.ticks, "cycle"), plural(figures.turns, "turn"), epochs)]
+    epochs = "%s of %s" % (counted(figures.epochs, "whole epoch"), counted(figures.policy.epoch, "turn"))
+    lines = ["%s: %s, %s, %s" % (name, counted(figures.ticks, "cycle"), counted(figures.turns, "turn"), epochs)]
     if figures.ticks:
-        wires = "command wires busy in %d of %s (%.1f %%)" % (figures.busy, plural(figures.ticks, "cycle"), figures.busy_percent)
-        lines.append("%s: %s, %s" % (wires, plural(figures.activates, "activate"), plural(figures.columns, "column command")))
+        wires = "command wires busy in %d of %s (%.1f %%)" % (figures.busy, counted(figures.ticks, "cycle"), figures.busy_percent)
+        lines.append("%s: %s, %s" % (wires, counted(figures.activates, "activate"), counted(figures.columns, "column command")))
     for status, count in sorted(figures.refusals.items()):
-        lines.append("refused with %d: %s (%s)" % (status, plural(count, "call"), REFUSALS[status].when))
+        lines.append("refused with %d: %s (%s)" % (status, counted(count, "call"), REFUSALS[status].when))
     return lines
 
 
@@ -91,7 +88,7 @@ def _epoch_lines(figures, names):
     rows += [["minimum", *figures.policy.minimums], ["cap", *(figures.policy.cap(number) for number in range(classes))]]
     rows += [[number, *figures.whole[number * classes : (number + 1) * classes]] for number in range(figures.epochs)]
     if figures.part:
-        rows.append(["%d, %d of %s" % (figures.epochs, sum(figures.part), plural(epoch, "turn")), *figures.part])
+        rows.append(["%d, %d of %s" % (figures.epochs, sum(figures.part), counted(epoch, "turn")), *figures.part])
     return aligned(rows)
 
 

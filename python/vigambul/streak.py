@@ -6,7 +6,7 @@ from itertools import compress, islice
 from operator import not_
 
 from .formats import line_of, words_of
-from .history import Call
+from .history import Call, ticks_of
 from .recorded import LineLog, RefusedLog
 from .words import call_words, counted, tick_words
 
@@ -60,11 +60,6 @@ def _alike_at_end(one, other):
     return _alike(one[::-1], other[::-1])
 
 
-def _ticks(trace, log, end):
-    """The ticks that were made before a place: a tick that was not has the number 12 in its line, and nothing else has."""
-    return trace[:end].count(0) - log[: 4 * end : 4].count(12)
-
-
 def compare(status, log, folder, recorded):
     """A run's status and log against what was recorded."""
     if isinstance(recorded, RefusedLog) or status != 0:
@@ -75,13 +70,13 @@ def compare(status, log, folder, recorded):
 
 
 def _compare_refusals(status, log, folder, recorded):
-    """One of the two refuses the policy, so that no cycle is compared. The same refusal on both sides is an empty run; anything else is a difference, in cycle 0 and to the end."""
+    """One of the two refuses the policy, or both do, so that no cycle is compared: a difference, in cycle 0 and to the end."""
     told = recorded.number if isinstance(recorded, RefusedLog) else 0
+    cycles = 0 if status else ticks_of(folder.trace, log)
     if told == status:
-        return Comparison(0)
-    cycles = 0 if status else _ticks(folder.trace, log, len(folder.trace))
-    sides = ["refuses the policy with %d" % number if number else "takes it" for number in (status, told)]
-    return Comparison(cycles, 0, max(0, cycles - 1), "the model %s, and the block %s" % tuple(sides))
+        return Comparison(cycles, 0, 0, "the model and the block refuse the policy with %d, and nothing was compared" % status)
+    first, second = ("refuses %s with %d" % (what, number) if number else "takes %s" % what for number, what in ((status, "the policy"), (told, "it")))
+    return Comparison(cycles, 0, max(0, cycles - 1), "the model %s, and the block %s" % (first, second))
 
 
 class LineComparison:
@@ -98,7 +93,7 @@ class LineComparison:
         for numbers in recorded.blocks():
             self._block(place, numbers)
             place += len(numbers) // 4
-        cycles = _ticks(self.trace, self.log, len(self.trace))
+        cycles = ticks_of(self.trace, self.log)
         why = ""
         if place != len(self.trace):
             why = "the model has %s, and the block %d" % (counted(len(self.trace), "line"), place)
@@ -131,7 +126,7 @@ class LineComparison:
 
     def _cycle(self, place):
         """The cycle of the call at a place; the one after the last of places past the end."""
-        return _ticks(self.trace, self.log, min(place, len(self.trace)))
+        return ticks_of(self.trace, self.log, place)
 
     def _start(self):
         """The first place that is shown: that after the ninth tick before the first difference."""
@@ -200,7 +195,7 @@ def _shortened(rows):
 
 def _compare_wires(folder, log, recorded):
     """What the model's command and answer wires carried in each cycle against what was recorded."""
-    cycles = _ticks(folder.trace, log, len(folder.trace))
+    cycles = ticks_of(folder.trace, log)
     pairs = []
     for place, wire in ((1, recorded.command), (2, recorded.answer)):
         model = words_of(b"")[0]

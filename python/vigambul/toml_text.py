@@ -12,6 +12,10 @@ _HEADER = re.compile(r"\s*\[(\[?)([^\[\]]+)\]\]?\s*(#.*)?\Z")
 _KEY = re.compile(r"""\s*((?:[A-Za-z0-9_-]+|"[^"]*"|'[^']*')(?:\s*\.\s*(?:[A-Za-z0-9_-]+|"[^"]*"|'[^']*'))*)\s*=""")
 _PART = re.compile(r"""[A-Za-z0-9_-]+|"[^"]*"|'[^']*'""")
 _TWICE = re.compile(r"Cannot declare (\(.*\)) twice")
+# A longer number is not written out again: TOML has none of more than 64 bits.
+LONGEST_NUMBER = 64
+# A value may be as long as its file; of one that would fill the screen both ends are told.
+LONGEST_WHAT = 2_000
 _AT = re.compile(r" \(at (?:line (\d+), column (\d+)|end of document)\)\Z")
 
 
@@ -66,6 +70,8 @@ def value_words(value):
         return "[%s]" % ", ".join(value_words(item) for item in value)
     if isinstance(value, dict):
         return "a table"
+    if isinstance(value, int) and value.bit_length() > LONGEST_NUMBER:
+        return "a number of %d bits" % value.bit_length()
     return str(value)
 
 
@@ -74,6 +80,12 @@ def nearest(word, known):
     part_of = [other for other in known if len(word) > 2 and (word in other or other in word)]
     alike = difflib.get_close_matches(word, known, 1, 0.6)
     return alike[0] if alike else part_of[0] if part_of else None
+
+
+def meant_key(key, known, table):
+    """The known key that an unknown one of a table may be meant for, or None; and what to mend."""
+    like = nearest(key, [other for other in known if other not in table])
+    return like, "write %s, if that is meant, or take it out" % like if like else "take it out"
 
 
 @dataclass(frozen=True)
@@ -87,7 +99,8 @@ class Mistake:
 
     def text(self, file):
         where = "%s, line %d" % (file, self.line) if self.line else str(file)
-        return "%s: %s\n  allowed: %s\n  to mend: %s" % (where, self.what, self.allowed, self.mend)
+        what = self.what if len(self.what) <= LONGEST_WHAT else "%s .. %s" % (self.what[: LONGEST_WHAT // 2], self.what[-LONGEST_WHAT // 4 :])
+        return "%s: %s\n  allowed: %s\n  to mend: %s" % (where, what, self.allowed, self.mend)
 
 
 class Mistakes:
@@ -111,14 +124,13 @@ class Mistakes:
         meant = set()
         for key in table:
             if key not in known:
-                like = nearest(key, [other for other in known if other not in table])
+                like, mend = meant_key(key, known, table)
                 meant.add(like)
-                mend = "write %s, if that is meant, or take it out" % like if like else "take it out"
                 self.add(path + (key,), "%s: there is no such key %s" % (".".join(path + (key,)), where), ", ".join(known), mend)
         return meant
 
 
-def _syntax(file, error):
+def _syntax(error):
     """A mistake of the language itself. A table that stands twice is said in our words; the rest in those of the reader of TOML."""
     said = str(error)
     at = _AT.search(said)
@@ -160,4 +172,9 @@ def read_toml(path, parse_float=float):
     try:
         return tomllib.loads(text, parse_float=parse_float), Mistakes(path, text)
     except tomllib.TOMLDecodeError as error:
-        raise Refused("1 mistake in %s\n%s" % (path, _syntax(path, error).text(path))) from None
+        mistake = _syntax(error)
+    except RecursionError:
+        mistake = Mistake(None, "not TOML that can be read: brackets stand inside brackets, too deep", "TOML 1.0", "take the inner brackets out")
+    except ValueError:
+        mistake = Mistake(None, "not TOML: a number has thousands of digits", "numbers of at most 64 bits", "write a shorter number")
+    raise Refused("1 mistake in %s\n%s" % (path, mistake.text(path)))

@@ -66,7 +66,7 @@ class Entry:
     """What is written before the tick of a cycle: an offer, whose tag may be left to be numbered, or a trace number as it is."""
 
     cycle: int
-    owner: int = 0
+    class_: int = 0
     kind: int = 0
     bank: int = 0
     tag: int = None
@@ -93,16 +93,20 @@ def trace_of(traffic):
         if entry.word is not None:
             words.append(entry.word)
             continue
-        numbers[entry.owner] += 1
-        tag = numbers[entry.owner] % TAG_FIELD if entry.tag is None else entry.tag
-        words.append(Request(entry.owner, entry.kind, entry.bank, tag).word)
+        numbers[entry.class_] += 1
+        tag = numbers[entry.class_] % TAG_FIELD if entry.tag is None else entry.tag
+        words.append(Request(entry.class_, entry.kind, entry.bank, tag).word)
     words.frombytes(bytes(4 * (traffic.cycles - at)))
     return words
 
 
+# No number of a traffic text has more digits, with room for zeros in front.
+LONGEST_DECIMAL = 20
+
+
 def number_of(text):
     """A number in decimal, or in hexadecimal with 0x; None if it is none."""
-    if text.isascii() and text.isdecimal():
+    if text.isascii() and text.isdecimal() and len(text) <= LONGEST_DECIMAL:
         return int(text)
     return hex_of(text) if text[:2].lower() == "0x" else None
 
@@ -137,7 +141,8 @@ class Reader:
         where = "%s, line %d" % (self.path, place.line) if place.line else self.path
         self.warnings.append("%s: %s: %s will be refused: %s" % (where, place.label, value, REFUSALS[number].when))
 
-    def owner(self, place, text, shown):
+    def class_number(self, place, text, shown):
+        """A class, from its name or its number."""
         number = self.known.class_number(text)
         if number is None:
             self.tell(place, shown, self.known.classes_allowed(), self.class_mend(text))

@@ -16,6 +16,14 @@ KINDS_ALLOWED = "read (r, 0) or write (w, 1); for lines that are no request: end
 SEPARATORS = (",", ";", "\t")
 
 
+def _cells(row, separator):
+    try:
+        return next(csv.reader([row], delimiter=separator))
+    except csv.Error:
+        # A cell of more than 131,072 characters; whatever it is, it is told as the mistake that it is.
+        return row.split(separator)
+
+
 def rows_of(text):
     """The rows of a CSV text with their lines. Blank lines and lines that begin with # are left out. The separator is the header's: a comma, a semicolon or a tab."""
     separator = None
@@ -23,7 +31,7 @@ def rows_of(text):
         if not row.strip() or row.lstrip().startswith("#"):
             continue
         separator = separator or next((mark for mark in SEPARATORS if mark in row), SEPARATORS[0])
-        cells = [cell.strip() for cell in next(csv.reader([row], delimiter=separator))]
+        cells = [cell.strip() for cell in _cells(row, separator)]
         # A spreadsheet saves a comment with commas in it between quotes, and a blank line as separators alone.
         if any(cells) and not cells[0].startswith("#"):
             yield line, cells
@@ -112,7 +120,7 @@ class CsvReader(Reader):
     def request_row(self, line, values):
         """A request. All its cells are looked at, so that each mistake is told."""
         cycle = self.cycle(line, values)
-        owner = self.owner(Place(line, "column class"), values["class"], values["class"] or None)
+        number = self.class_number(Place(line, "column class"), values["class"], values["class"] or None)
         kind = KIND_WORDS.get(values["kind"].lower())
         if kind is None:
             self.tell(Place(line, "column kind"), values["kind"] or None, KINDS_ALLOWED, "write one of these")
@@ -121,7 +129,7 @@ class CsvReader(Reader):
         bank = self.bank(Place(line, "column bank"), number_of(values["bank"]), values["bank"] or None)
         tag = self.tag(line, values["tag"])
         self.empty(line, values, ("word",))
-        return None if None in (cycle, owner, kind, bank) else Entry(cycle, owner, kind, bank, tag)
+        return None if None in (cycle, number, kind, bank) else Entry(cycle, number, kind, bank, tag)
 
     def word_row(self, line, values):
         """A trace number as it is. 0 would be a tick, and ticks are filled in."""
@@ -168,7 +176,7 @@ def csv_of(words, left_over, names):
         if is_offer(word):
             request = request_of(word)
             kind = KINDS[request.kind] if request.kind < len(KINDS) else request.kind
-            out.writerow({"cycle": cycle, "class": names.by_number.get(request.owner, request.owner), "kind": kind, "bank": request.bank, "tag": request.tag})
+            out.writerow({"cycle": cycle, "class": names.by_number.get(request.class_, request.class_), "kind": kind, "bank": request.bank, "tag": request.tag})
         elif not ticks:
             out.writerow({"cycle": cycle, "kind": "word", "word": "%08X" % word})
     out.writerow({"cycle": cycles, "kind": "end"})

@@ -7,7 +7,7 @@ from fractions import Fraction
 
 from .draws import Draws
 from .formats import BANKS, LAST_CYCLE
-from .toml_text import nearest, read_toml, value_words
+from .toml_text import meant_key, read_toml, value_words
 from .traffic import Entry, Place, Reader, Traffic
 
 TOP_KEYS = ("cycles", "stream")
@@ -15,13 +15,15 @@ KEYS = ("class", "from", "to", "every", "burst", "banks", "writes", "pick", "see
 PICKS = ("random", "in turn")
 MOST_BURST = 1024
 MOST_SEED = 2**63 - 1
+# A share of writes has so many places after the point at most.
+PLACES = 15
 
 
 @dataclass
 class Stream:
     """A burst of requests every so many cycles, from the first cycle to the last."""
 
-    owner: int
+    class_: int
     first: int
     last: int
     every: int
@@ -37,11 +39,11 @@ class Stream:
         for cycle in range(self.first, self.last + 1, self.every):
             for _ in range(self.burst):
                 kind, bank = next(choose)
-                yield Entry(cycle, self.owner, kind, bank)
+                yield Entry(cycle, self.class_, kind, bank)
 
     def at_random(self):
         """Kinds and banks by chance. They rest on the seed and the class alone, so that no stream moves another."""
-        draws, writes = Draws(self.seed, self.owner), float(self.writes)
+        draws, writes = Draws(self.seed, self.class_), float(self.writes)
         while True:
             bank = draws.one_of(self.banks)
             yield int(draws.chance(writes)), bank
@@ -84,8 +86,7 @@ class StreamReader(Reader):
     def unknown(self, table, known, numbers):
         for key in table:
             if key not in known:
-                like = nearest(key, [other for other in known if other not in table])
-                mend = "write %s, if that is meant, or take it out" % like if like else "take it out"
+                _, mend = meant_key(key, known, table)
                 self.tell(self.place(key, *numbers), "there is no such key", ", ".join(known), mend)
 
     def rows(self, table):
@@ -100,7 +101,7 @@ class StreamReader(Reader):
         """A stream. Where it has a mistake it is worth nothing, and the mistake is told."""
         self.unknown(row, KEYS, (number,))
         given = row.get("class")
-        owner = self.owner(self.place("class", number), "" if given is None else str(given), None if given is None else value_words(given))
+        class_ = self.class_number(self.place("class", number), "" if given is None else str(given), None if given is None else value_words(given))
         first = self.number(number, row, "from", 0, LAST_CYCLE, 0)
         every = self.number(number, row, "every", 1, LAST_CYCLE, 1)
         last = self.last(number, row, first)
@@ -108,7 +109,7 @@ class StreamReader(Reader):
         if first is not None:
             self.within(self.place("from", number), first, self.ends)
         seed = self.number(number, row, "seed", 0, MOST_SEED, 0)
-        stream = Stream(owner, first, last, every, burst, self.banks(number, row), self.share(number, row), self.pick(number, row), seed)
+        stream = Stream(class_, first, last, every, burst, self.banks(number, row), self.share(number, row), self.pick(number, row), seed)
         if None not in (first, last, every):
             stream.last = last - (last - first) % every
         return stream
@@ -148,10 +149,12 @@ class StreamReader(Reader):
 
     def share(self, number, row):
         value = row.get("writes", 0)
-        if isinstance(value, bool) or not isinstance(value, (int, Decimal)) or not Decimal(value).is_finite() or not 0 <= value <= 1:
-            self.tell(self.place("writes", number), value_words(value), "0 to 1, as in 0.25", "write the share of writes among the requests")
+        share = None if isinstance(value, bool) or not isinstance(value, (int, Decimal)) else Decimal(value)
+        # A number of too many places would be a fraction that takes forever.
+        if share is None or not share.is_finite() or not 0 <= share <= 1 or share.as_tuple().exponent < -PLACES:
+            self.tell(self.place("writes", number), value_words(value), "0 to 1, as in 0.25, with at most %d places" % PLACES, "write the share of writes among the requests")
             return None
-        return Fraction(value)
+        return Fraction(share)
 
     def pick(self, number, row):
         value = row.get("pick", PICKS[0])

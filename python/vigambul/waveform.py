@@ -172,8 +172,8 @@ class Waveform(Replay):
     def _request(self, signals, word):
         """The fields of a request; where there is none they are 0, and the name is a dash."""
         request = request_of(word)
-        text = self.signals.texts[request.owner] if word else NO_NAME
-        self.pending.update(zip(signals, (request.owner, text, request.kind, request.bank, request.tag)))
+        text = self.signals.texts[request.class_] if word else NO_NAME
+        self.pending.update(zip(signals, (request.class_, text, request.kind, request.bank, request.tag)))
 
     def _write(self):
         """Writes the values that have changed; before the first cycle's, all."""

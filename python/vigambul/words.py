@@ -12,7 +12,7 @@ def request_words(word, names):
     """A request: its class, kind, bank and tag. Numbers that no request may have are shown as they are."""
     request = request_of(word)
     kind = KINDS[request.kind] if request.kind < len(KINDS) else "kind %d" % request.kind
-    return "%s %s bank %d tag %d" % (names.of(request.owner), kind, request.bank, request.tag)
+    return "%s %s bank %d tag %d" % (names.of(request.class_), kind, request.bank, request.tag)
 
 
 def command_words(command, names):
@@ -32,6 +32,12 @@ def turn_words(turn, names):
 def refusal_words(status):
     """A call's refusal: its number, and when it is given."""
     return "refused %d: %s" % (status, REFUSALS[status].when if status in REFUSALS else "no such number")
+
+
+def policy_refusal_words(number):
+    """A policy's refusal: its number, when it is given, and what to do about it."""
+    refusal = REFUSALS[number]
+    return "policy refused %d: %s. Usual cause: %s. To mend: %s." % (number, refusal.when, refusal.cause, refusal.mend)
 
 
 def trace_words(word, names):

@@ -6,9 +6,10 @@ from .. import build
 from ..blind import difference_words, first_difference, premise, premise_words, seen_of
 from ..blind_search import searched
 from ..errors import Refused, Wrong
-from ..folders import folder_at, read_file, refusal_words, run_folder
+from ..folders import folder_at, read_file, run_folder
 from ..policies import names_beside, policy_of
 from ..tables import aligned
+from ..words import policy_refusal_words
 
 HEADS = ("class", "pairs", "trace numbers", "struck out", "full logs differ", "extracts differ")
 
@@ -55,7 +56,7 @@ def search(library, path, name, pairs, seed):
     data = read_file(path)
     status = library.read(data)
     if status != 0:
-        raise Refused("%s: %s" % (path, refusal_words(status)))
+        raise Refused("%s: %s" % (path, policy_refusal_words(status)))
     names, count = names_beside(path), policy_of(data).classes
     classes = list(range(count)) if name is None else [names.number(name, count)]
     figures = searched(library, data, names, classes, pairs, seed, progress(pairs))
@@ -87,9 +88,9 @@ def add(commands):
         "blind",
         help="whether a class can tell apart what it may not know",
         usage="vig blind [-h] A B --class NAME\n       vig blind [-h] --search N POLICY [--class NAME] [--seed S]",
-        description="Two folders with one policy: first the premise, that their traces agree for the class once malformed words and offers of classes that there are none of or that "
-        "may not flow to it are struck out (else 2); then whether its two extracts are equal (0) or where they first differ (1). With --search the same for N random pairs of traces on "
-        "one policy, made so that neighbours act as differently as they can.",
+        description="Two folders with one policy: first the premise, that their traces agree for the class once malformed words and offers of classes that there are none of "
+        "or that may not flow to it are struck out (else 2); then whether its two extracts are equal (0) or where they first differ (1). With --search the same for N random "
+        "pairs of traces on one policy, made so that neighbours act as differently as they can.",
         epilog="examples:\n  vig blind examples/two-tenants examples/two-tenants-busy --class red\n  vig blind --search 1000 examples/diamond/policy.bin",
     )
     command.add_argument("paths", nargs="+", metavar="PATH", help="two folders, A and B, with policy.bin and trace.bin; with --search one policy file")

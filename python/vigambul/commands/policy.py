@@ -6,12 +6,13 @@ from pathlib import Path
 from .. import build
 from ..clock import converted_words
 from ..errors import Refused, Wrong
-from ..folders import read_file, refusal_words, write_file
+from ..folders import read_file, write_file
 from ..order_drawing import dot_of, svg_of
 from ..policies import names_beside
 from ..policy_show import answer_words, decode, shown
 from ..policy_text import read_policy_text, text_of
 from ..sign_off import sign_off
+from ..words import counted, policy_refusal_words
 
 
 def _taken(text, path):
@@ -19,14 +20,14 @@ def _taken(text, path):
     data = text.policy.to_bytes()
     status = build.library().read(data)
     if status != 0:
-        raise Refused("%s: the text has no mistake that could be told, but the proved reader refuses its bytes: %s" % (path, refusal_words(status)))
+        raise Refused("%s: the text has no mistake that could be told, but the proved reader refuses its bytes: %s" % (path, policy_refusal_words(status)))
     return data
 
 
 def check(arguments):
     text = read_policy_text(arguments.text)
     policy = text.policy
-    print("%s: %d %s, an epoch of %d turns\n" % (arguments.text, policy.classes, "class" if policy.classes == 1 else "classes", policy.epoch))
+    print("%s: %s, an epoch of %s\n" % (arguments.text, counted(policy.classes, "class", "classes"), counted(policy.epoch, "turn")))
     print("\n".join(sign_off(policy, text.names)))
     if text.converted:
         print(converted_words(text.clock, text.converted) + "\n")

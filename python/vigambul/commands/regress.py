@@ -20,6 +20,8 @@ def run(arguments):
     for file in (arguments.csv, arguments.junit):
         if file and not Path(file).absolute().parent.is_dir():
             raise Wrong("%s: no such folder to write to" % file)
+        if file and Path(file).is_dir():
+            raise Wrong("%s: a folder, where a file is to be written" % file)
     program = str(build.program())
     rows = list(shown(program, found, arguments.jobs))
     if arguments.csv:
@@ -54,10 +56,10 @@ def add(commands):
         help="many folders over all cores, each against its expected.txt",
         description="Runs the proved program in each folder of a list and holds what it prints against the folder's expected.txt. A refusal that expected.txt expects is a "
         "pass; any other fails, and so does a difference: exit status 1. A folder or file that is missing is told before anything runs: exit status 2.",
-        epilog="LIST is a file with a folder on each line, relative to the file (# begins a comment; *, ? and [..] are patterns), or a folder whose folders are taken.\n\n"
+        epilog="LIST is a file with a folder on each line, relative to the file (# begins a comment; *, ? and [..] are patterns), or a folder: itself, or the folders in it.\n\n"
         "examples:\n  vig regress examples -j 2 --csv rows.csv\n  vig regress nightly.txt --part 3/16 --junit part-3.xml",
     )
-    command.add_argument("list", metavar="LIST", help="a list of folders, or a folder with folders")
+    command.add_argument("list", metavar="LIST", help="a list of folders, a folder with folders, or a single one")
     command.add_argument("-j", dest="jobs", metavar="N", type=int, default=os.cpu_count() or 1, help="runs at a time (as many as there are cores, if not given)")
     command.add_argument("--part", metavar="K/N", help="of the list, only every N-th folder from the K-th on: one of N jobs")
     command.add_argument("--csv", metavar="F", help="write the rows as CSV")

@@ -5,7 +5,8 @@ import sys
 from .. import build
 from ..figures import figures_of, figures_over
 from ..folders import folder_at, run_folder, write_file
-from ..report import csv_of, json_of, plural, text_of
+from ..report import csv_of, json_of, text_of
+from ..words import counted
 
 
 def run(arguments):
@@ -15,7 +16,7 @@ def run(arguments):
     for folder in folders:
         ran = run_folder(library, folder)
         if folder.left_over:
-            print("vig: %s: %s left over at the end, which no run takes" % (folder.path / "trace.bin", plural(folder.left_over, "byte")), file=sys.stderr)
+            print("vig: %s: %s left over at the end, which no run takes" % (folder.path / "trace.bin", counted(folder.left_over, "byte")), file=sys.stderr)
         figures = figures_of(ran)
         print(text_of(figures, ran.names, str(folder.path), arguments.epochs), end="" if len(folders) == 1 else "\n")
         reported.append((str(folder.path), figures, ran.names))

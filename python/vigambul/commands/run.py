@@ -3,32 +3,31 @@
 import subprocess
 import sys
 from collections import Counter
+from itertools import islice
 
 from .. import build
 from ..errors import Refused, Wrong
-from ..folders import folder_at, refusal_words, run_folder
-from ..formats import HEADER, REFUSALS
+from ..folders import folder_at, run_folder
+from ..formats import HEADER, REFUSALS, TICKS_OVER
 from ..history import calls_of
-from ..lines import CUT_TRACE
-from ..words import call_words
-
-REFUSED_LINE = "policy refused "
+from ..lines import CUT_TRACE, MANY, refusal_of
+from ..words import call_words, policy_refusal_words
 
 
 def hand_on(program, folder):
     """Runs the program in the folder and hands its lines on as they come; hands back how often each status occurred. A refused policy ends the command."""
-    statuses, refused = Counter(), None
+    statuses, first = Counter(), None
     with subprocess.Popen([program], cwd=folder.path, stdin=subprocess.DEVNULL, stdout=subprocess.PIPE, text=True) as run:
-        for line in run.stdout:
-            sys.stdout.write(line)
-            if line.startswith(REFUSED_LINE):
-                refused = int(line[len(REFUSED_LINE) :])
-            else:
-                statuses[line[:8]] += 1
-    if run.returncode != 0:
+        while lines := list(islice(run.stdout, MANY)):
+            first = first or lines[0]
+            sys.stdout.writelines(lines)
+            statuses.update(line[:8] for line in lines)
+    # A program may end with 1 where it refuses the policy; what it printed says so too.
+    if run.returncode not in (0, 1):
         raise Wrong("%s: the program ended with status %d" % (folder.path, run.returncode))
+    refused = refusal_of((first or "").encode())
     if refused is not None:
-        raise Refused("%s: %s" % (folder.path / "policy.bin", refusal_words(refused)))
+        raise Refused("%s: %s" % (folder.path / "policy.bin", policy_refusal_words(refused)))
     for other in (HEADER, CUT_TRACE.decode()):
         del statuses[other[:8]]
     return Counter({int(status, 16): count for status, count in statuses.items()})
@@ -45,8 +44,8 @@ def in_words(library, folder):
 
 
 def summary(statuses, folder):
-    """The lines of the summary. Of the refusals of a call 12 is the one that meets ticks."""
-    ticks = folder.trace.count(0) - statuses[12]
+    """The lines of the summary."""
+    ticks = folder.trace.count(0) - statuses[TICKS_OVER]
     yield "ticks: %d; offers taken: %d; refused: %d" % (ticks, statuses[0] - ticks, statuses.total() - statuses[0])
     for status in sorted(set(statuses) - {0}):
         yield "refused with %d: %d (%s)" % (status, statuses[status], REFUSALS[status].when)

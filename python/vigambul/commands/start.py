@@ -2,6 +2,7 @@
 
 import hashlib
 import os
+import shlex
 import shutil
 from pathlib import Path
 
@@ -55,7 +56,7 @@ def run(arguments):
 def typed(path):
     """A path of the repository as it is typed in the current folder: from there where that is inside the repository, else from the root."""
     here = Path.cwd()
-    return os.path.relpath(path, here) if here.is_relative_to(build.ROOT) else str(path)
+    return shlex.quote(os.path.relpath(path, here) if here.is_relative_to(build.ROOT) else str(path))
 
 
 def launcher():

@@ -78,7 +78,12 @@ example:
 
 
 def add(commands):
-    command = commands.add_parser("trace", help="traffic as text made into a trace, and a trace in words", description="Makes a trace of a traffic text, and shows a trace.")
+    command = commands.add_parser(
+        "trace",
+        help="traffic as text made into a trace, and a trace in words",
+        description="Makes a trace of a traffic text, and shows a trace.",
+        epilog="examples:\n  vig trace make examples/cloud/traffic.toml -o trace.bin\n  vig trace show examples/refused-calls/trace.bin",
+    )
     command.set_defaults(run=lambda arguments: command.error("make or show?"))
     parts = command.add_subparsers(metavar="make|show")
     part = parts.add_parser("make", help="makes a trace of a traffic text", description="Makes a trace of a traffic text, CSV or TOML.", epilog=MAKE_EPILOG)

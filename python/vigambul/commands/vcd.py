@@ -1,5 +1,6 @@
 """`vig vcd`: a run as a waveform."""
 
+import shlex
 import sys
 from pathlib import Path
 
@@ -7,6 +8,7 @@ from .. import build
 from ..errors import Wrong
 from ..folders import folder_at, run_folder, write_file, writing
 from ..waveform import Waveform, save_file
+from ..words import counted
 
 SAVE = ".gtkw"
 
@@ -22,7 +24,8 @@ def run(arguments):
         waveform.write(ran, folder.name)
     save = out.with_suffix(SAVE)
     write_file(save, save_file(ran.policy, ran.names, out.name))
-    print("%s: %d cycles; to look at it: gtkwave %s %s" % (out, waveform.cycle, out, save), file=sys.stderr)
+    look = shlex.join(["gtkwave", str(out), str(save)])
+    print("%s: %s; to look at it: %s" % (out, counted(waveform.cycle, "cycle"), look), file=sys.stderr)
 
 
 def add(commands):

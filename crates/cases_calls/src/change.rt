@@ -3,6 +3,7 @@
 
 use super::Case;
 use super::least;
+use super::number_at;
 use policy::Policy;
 use script::List;
 use state::Flight;
@@ -149,9 +150,9 @@ pub(crate) fn changed(c: Case, from: usize) -> Case {
     let mut state = c.state;
     let mut at = from;
     while at < 158 {
-        let field = (own.at[at] % 256) as u8;
-        let place = own.at[at + 1];
-        let to = own.at[at + 2];
+        let field = (number_at(own, at) % 256) as u8;
+        let place = number_at(own, at + 1);
+        let to = number_at(own, at + 2);
         policy = policy_with(policy, field, place, to);
         state = state_with(state, field, place, to);
         at += 3;

@@ -2,6 +2,7 @@
 
 use super::Case;
 use super::least;
+use super::number_at;
 use super::same;
 use super::singles;
 use super::singles::Called;
@@ -129,11 +130,8 @@ fn cell(text: &[u8], l: Line, c: Case, at: usize, value: u32) {
 // A log by lines, four numbers to a line.
 fn rows(text: &[u8], l: Line, c: Case, log: List) {
     let mut at = 0;
-    while at < 160 {
-        if log.count <= at {
-            return;
-        }
-        cell(text, l, c, at, log.at[at]);
+    while at < log.count {
+        cell(text, l, c, at, number_at(log, at));
         at += 1;
     }
 }
@@ -141,11 +139,8 @@ fn rows(text: &[u8], l: Line, c: Case, log: List) {
 // The numbers of a log, one after the other.
 fn print(log: List) {
     let mut at = 0;
-    while at < 160 {
-        if log.count <= at {
-            return;
-        }
-        script::spaced(log.at[at] as usize);
+    while at < log.count {
+        script::spaced(number_at(log, at) as usize);
         at += 1;
     }
 }
@@ -161,11 +156,9 @@ pub(crate) fn list(text: &[u8], l: Line, c: Case) {
 
 // A run over as many numbers of the trace, with a log of as many, and its whole log on its line: TRACE LOG.
 pub(crate) fn whole(c: Case) {
-    let own = c.own;
-    let room = own.at[1] as usize;
     let mut trace = c.trace;
-    trace.count = own.at[0] as usize;
-    let made = run_of(c.policy, c.state, trace, room);
+    trace.count = number_at(c.own, 0) as usize;
+    let made = run_of(c.policy, c.state, trace, number_at(c.own, 1) as usize);
     ran(c.state, made);
     words(b", log");
     print(made.log);
@@ -183,7 +176,7 @@ pub(crate) fn plain(text: &[u8], l: Line, c: Case) {
 fn same_log(a: List, b: List) -> bool {
     let mut at = 0;
     while at < 160 {
-        if a.at[at] != b.at[at] {
+        if number_at(a, at) != number_at(b, at) {
             return false;
         }
         at += 1;
@@ -202,8 +195,7 @@ fn agree(a: Run, b: Run) {
 
 // Two runs that meet at a place, beside the run in one piece: PLACE.
 pub(crate) fn halves(c: Case) {
-    let own = c.own;
-    let place = own.at[0] as usize;
+    let place = number_at(c.own, 0) as usize;
     let one = run_of(c.policy, c.state, c.trace, 160);
     let mut start = c.trace;
     start.count = place;
@@ -219,18 +211,23 @@ pub(crate) fn halves(c: Case) {
     agree(one, both);
 }
 
-// A log with the four numbers of a call more, where there is room.
-fn with_call(log: List, made: Called) -> List {
-    let mut longer = log;
-    let count = log.count;
-    if count < 157 {
-        longer.at[count] = made.status;
-        longer.at[count + 1] = made.command;
-        longer.at[count + 2] = made.response;
-        longer.at[count + 3] = made.turn;
-        longer.count = count + 4;
+// A list with a number more, where there is room.
+fn with_number(list: List, value: u32) -> List {
+    let mut longer = list;
+    let count = list.count;
+    if count < 160 {
+        longer.at[count] = value;
+        longer.count = count + 1;
     }
     longer
+}
+
+// A log with the four numbers of a call more.
+fn with_call(log: List, made: Called) -> List {
+    let first = with_number(log, made.status);
+    let second = with_number(first, made.command);
+    let third = with_number(second, made.response);
+    with_number(third, made.turn)
 }
 
 // A single call's line, if it is to be shown.
@@ -247,8 +244,8 @@ fn singly(text: &[u8], l: Line, c: Case) -> Run {
     let mut log = unwritten(0);
     let mut state = c.state;
     let mut at = 0;
-    while at < least(trace.count, 160) {
-        let made = singles::call_of(c.policy, state, trace.at[at]);
+    while at < trace.count {
+        let made = singles::call_of(c.policy, state, number_at(trace, at));
         call_line(text, l, c, at, state, made);
         log = with_call(log, made);
         state = made.state;

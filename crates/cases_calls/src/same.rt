@@ -1,69 +1,83 @@
-// Whether two states are the same, number by number: a refused call hands back the state that it was given. Every place below 128 is looked at, and each list of a state has
-// 128 places or a part of that.
+// Whether two states are the same, number by number: a refused call hands back the state that it was given.
 
 use state::Flight;
 use state::Queues;
 use state::State;
 use state::Turns;
 
-fn same_queues(a: Queues, b: Queues, at: usize) -> bool {
-    let slot = at % 128;
-    let class = at % 16;
-    (a.slots[slot] == b.slots[slot])
-        & (a.heads[class] == b.heads[class])
-        & (a.lengths[class] == b.lengths[class])
+// The numbers of a state, one after the other: of its queues, 160,
+fn of_queues(q: Queues, at: usize) -> u64 {
+    if at < 128 {
+        q.slots[at] as u64
+    } else if at < 144 {
+        q.heads[at - 128] as u64
+    } else if at < 160 {
+        q.lengths[at - 144] as u64
+    } else {
+        0
+    }
 }
 
-fn same_turns(a: Turns, b: Turns, at: usize) -> bool {
-    let class = at % 16;
-    (a.left[class] == b.left[class])
-        & (a.pointers[class] == b.pointers[class])
-        & (a.owner == b.owner)
-        & (a.elided == b.elided)
+// of its turns, 34,
+fn of_turns(t: Turns, at: usize) -> u64 {
+    if at < 16 {
+        t.left[at] as u64
+    } else if at < 32 {
+        t.pointers[at - 16] as u64
+    } else if at == 32 {
+        t.owner as u64
+    } else {
+        t.elided as u64
+    }
 }
 
-fn same_flight(a: Flight, b: Flight, at: usize) -> bool {
-    let due = at % 32;
-    let bank = at % 8;
-    (a.columns[due] == b.columns[due])
-        & (a.responses[due] == b.responses[due])
-        & (a.banks[bank] == b.banks[bank])
-        & (a.last == b.last)
+// of its flight, 73,
+fn of_flight(f: Flight, at: usize) -> u64 {
+    if at < 32 {
+        f.columns[at] as u64
+    } else if at < 64 {
+        f.responses[at - 32] as u64
+    } else if at < 72 {
+        f.banks[at - 64] as u64
+    } else {
+        f.last as u64
+    }
+}
+
+// and the cycle and the class count.
+fn of_state(s: State, at: usize) -> u64 {
+    if at < 160 {
+        of_queues(s.queues, at)
+    } else if at < 194 {
+        of_turns(s.turns, at - 160)
+    } else if at < 267 {
+        of_flight(s.flight, at - 194)
+    } else if at == 267 {
+        s.cycle as u64
+    } else {
+        s.classes as u64
+    }
 }
 
 pub(crate) fn same_state(a: State, b: State) -> bool {
     let mut at = 0;
-    while at < 128 {
-        let lists = same_queues(a.queues, b.queues, at) & same_turns(a.turns, b.turns, at);
-        if !(lists & same_flight(a.flight, b.flight, at)) {
+    while at < 269 {
+        if of_state(a, at) != of_state(b, at) {
             return false;
         }
         at += 1;
     }
-    (a.cycle == b.cycle) & (a.classes == b.classes)
+    true
 }
 
-// The state that is all zeros, as asking a fresh one of an unfit policy hands it back.
-pub(crate) fn zeros() -> State {
-    State {
-        cycle: 0,
-        classes: 0,
-        queues: Queues {
-            slots: [0u32; 128],
-            heads: [0usize; 16],
-            lengths: [0usize; 16],
-        },
-        turns: Turns {
-            owner: 0,
-            elided: false,
-            left: [0u32; 16],
-            pointers: [0usize; 16],
-        },
-        flight: Flight {
-            columns: [0u32; 32],
-            responses: [0u32; 32],
-            last: 0,
-            banks: [0u32; 8],
-        },
+// Whether a state is all zeros, as asking a fresh one of an unfit policy hands it back.
+pub(crate) fn all_zeros(s: State) -> bool {
+    let mut at = 0;
+    while at < 269 {
+        if of_state(s, at) != 0 {
+            return false;
+        }
+        at += 1;
     }
+    true
 }

@@ -1,6 +1,7 @@
 // Offers, ticks and fresh states.
 
 use super::Case;
+use super::number_at;
 use super::same;
 use super::words;
 use policy::Policy;
@@ -84,12 +85,11 @@ pub(crate) fn call_of(p: Policy, s: State, word: u32) -> Called {
 
 // CLASS KIND BANK TAG.
 pub(crate) fn offer(c: Case) {
-    let own = c.own;
     let r = Request {
-        class: own.at[0],
-        kind: own.at[1],
-        bank: own.at[2],
-        tag: (own.at[3] % 65536) as u16,
+        class: number_at(c.own, 0),
+        kind: number_at(c.own, 1),
+        bank: number_at(c.own, 2),
+        tag: (number_at(c.own, 3) % 65536) as u16,
     };
     show(c.state, offer_of(c.policy, c.state, r));
 }
@@ -102,7 +102,7 @@ pub(crate) fn tick(c: Case) {
 pub(crate) fn fresh(c: Case) {
     let made = state::fresh(c.policy);
     script::spaced(made.status as usize);
-    if same::same_state(made.state, same::zeros()) {
+    if same::all_zeros(made.state) {
         words(b", all zeros");
     }
     words(b"\n");

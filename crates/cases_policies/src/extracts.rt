@@ -2,6 +2,7 @@
 
 use super::Case;
 use super::least;
+use super::number_at;
 use super::words;
 use policy::Policy;
 use script::Line;
@@ -65,24 +66,20 @@ fn answered(made: Extract) {
 // The numbers of a list, one after the other.
 fn print(list: List) {
     let mut at = 0;
-    while at < 160 {
-        if list.count <= at {
-            return;
-        }
-        script::spaced(list.at[at] as usize);
+    while at < list.count {
+        script::spaced(number_at(list, at) as usize);
         at += 1;
     }
 }
 
 // An extract for a class of as many numbers of the trace and of the log, with room for as many, and the whole slice on its line: CLASS TRACE LOG ROOM.
 pub(crate) fn sized(c: Case) {
-    let own = c.own;
-    let room = own.at[3] as usize;
     let mut trace = c.trace;
-    trace.count = own.at[1] as usize;
+    trace.count = number_at(c.own, 1) as usize;
     let mut log = c.log;
-    log.count = own.at[2] as usize;
-    let made = extract_of(c.policy, own.at[0], trace, log, room);
+    log.count = number_at(c.own, 2) as usize;
+    let room = number_at(c.own, 3) as usize;
+    let made = extract_of(c.policy, number_at(c.own, 0), trace, log, room);
     answered(made);
     words(b", out");
     print(made.out);
@@ -104,17 +101,13 @@ fn cell(text: &[u8], l: Line, c: Case, at: usize, value: u32) {
 
 // What a class may see of a log, by lines: CLASS.
 pub(crate) fn seen(text: &[u8], l: Line, c: Case, log: List) {
-    let own = c.own;
-    let made = extract_of(c.policy, own.at[0], c.trace, log, log.count);
+    let made = extract_of(c.policy, number_at(c.own, 0), c.trace, log, log.count);
     let out = made.out;
     answered(made);
     words(b"\n");
     let mut at = 0;
-    while at < 160 {
-        if out.count <= at {
-            return;
-        }
-        cell(text, l, c, at, out.at[at]);
+    while at < out.count {
+        cell(text, l, c, at, number_at(out, at));
         at += 1;
     }
 }

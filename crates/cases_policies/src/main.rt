@@ -31,6 +31,11 @@ pub(crate) fn least(a: usize, b: usize) -> usize
     if a < b { a } else { b }
 }
 
+// The number of a list at an index, and 0 past its 160 places. (A call is one step of its caller's proof, and an index some four.)
+pub(crate) fn number_at(list: List, index: usize) -> u32 {
+    if index < 160 { list.at[index] } else { 0 }
+}
+
 // What the case of a line goes by. The changes of its policy stand after its own numbers.
 fn laid_out(text: &[u8], l: Line) -> Case {
     let own = script::numbers(text, l.numbers);

@@ -2,6 +2,7 @@
 
 use super::Case;
 use super::least;
+use super::number_at;
 use super::words;
 use file::Reading;
 use policy::Policy;
@@ -28,20 +29,18 @@ pub(crate) fn read(file: List) {
 
 // The file with one byte changed: PLACE BYTE.
 pub(crate) fn with(c: Case) {
-    let own = c.own;
-    let place = own.at[0] as usize;
+    let place = number_at(c.own, 0) as usize;
     let mut file = c.file;
     if place < 160 {
-        file.at[place] = own.at[1];
+        file.at[place] = number_at(c.own, 1);
     }
     read(file);
 }
 
 // The file cut to a length: LENGTH.
 pub(crate) fn cut(c: Case) {
-    let own = c.own;
     let mut file = c.file;
-    file.count = own.at[0] as usize;
+    file.count = number_at(c.own, 0) as usize;
     read(file);
 }
 
@@ -81,8 +80,9 @@ pub(crate) fn changed(p: Policy, list: List, from: usize) -> Policy {
     let mut changed = p;
     let mut at = from;
     while at < 158 {
-        let field = (list.at[at] % 256) as u8;
-        changed = with_number(changed, field, list.at[at + 1], list.at[at + 2]);
+        let field = (number_at(list, at) % 256) as u8;
+        let place = number_at(list, at + 1);
+        changed = with_number(changed, field, place, number_at(list, at + 2));
         at += 3;
     }
     changed

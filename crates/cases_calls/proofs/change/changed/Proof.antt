@@ -6,6 +6,7 @@ use Rattle.cases_calls.proofs.change.changed.Statement.{statement}
 use Rattle.cases_calls.proofs.change.changed.Tie as tie
 use Rattle.cases_calls.proofs.change.policy_with.Reads as policy-with-reads
 use Rattle.cases_calls.proofs.change.state_with.Reads as state-with-reads
+use Rattle.cases_calls.proofs.number_at.Reads as number-at-reads
 
 abbrev Inv-loop : tie.InvT-loop
 Inv-loop from trace own policy₀ state₀ at₀ policy state at = 0 ≤ at
@@ -16,32 +17,23 @@ abbrev μ-loop : tie.MeasureT-loop
 loop-holds : tie.Need-loop-holds Inv-loop μ-loop
 loop-holds c = search needs
 
-mul-field : tie.Need-mul-field Inv-loop μ-loop
-mul-field c = search needs
-
-element-copy-out-field : tie.Need-element-copy-out-field Inv-loop μ-loop
-element-copy-out-field c = search needs
+number-at-requires : tie.Need-number-at-requires Inv-loop μ-loop
+number-at-requires c κs = search needs
 
 cast-field : tie.Need-cast-field Inv-loop μ-loop
 cast-field c = search needs
 
-add-place : tie.Need-add-place Inv-loop μ-loop
-add-place c = search needs
+add-number-at : tie.Need-add-number-at Inv-loop μ-loop
+add-number-at c = search needs
 
-mul-place : tie.Need-mul-place Inv-loop μ-loop
-mul-place c = search needs
+number-at-requires-2 : tie.Need-number-at-requires-2 Inv-loop μ-loop
+number-at-requires-2 c κs = search needs
 
-element-copy-out-place : tie.Need-element-copy-out-place Inv-loop μ-loop
-element-copy-out-place c = search needs
+add-number-at-2 : tie.Need-add-number-at-2 Inv-loop μ-loop
+add-number-at-2 c = search needs
 
-add-to : tie.Need-add-to Inv-loop μ-loop
-add-to c = search needs
-
-mul-to : tie.Need-mul-to Inv-loop μ-loop
-mul-to c = search needs
-
-element-copy-out-to : tie.Need-element-copy-out-to Inv-loop μ-loop
-element-copy-out-to c = search needs
+number-at-requires-3 : tie.Need-number-at-requires-3 Inv-loop μ-loop
+number-at-requires-3 c κs = search needs
 
 policy-with-requires : tie.Need-policy-with-requires Inv-loop μ-loop
 policy-with-requires c κs = search needs
@@ -68,15 +60,12 @@ changed-spec =
     Inv-loop
     μ-loop
     loop-holds
-    mul-field
-    element-copy-out-field
+    number-at-requires
     cast-field
-    add-place
-    mul-place
-    element-copy-out-place
-    add-to
-    mul-to
-    element-copy-out-to
+    add-number-at
+    number-at-requires-2
+    add-number-at-2
+    number-at-requires-3
     policy-with-requires
     state-with-requires
     add-at

@@ -1,28 +1,23 @@
--- `cases_calls::runs::print` ends: the place rises to 160.
+-- `cases_calls::runs::print` ends: the place rises to the log's count.
 -- Assumes nothing.
 use Prim.Native.Nat.{_-_, _≤_}
 use borrow.Author.Needs.{needs}
 use Rattle.cases_calls.proofs.runs.print.Statement.{statement}
 use Rattle.cases_calls.proofs.runs.print.Tie as tie
+use Rattle.cases_calls.proofs.number_at.Reads as number-at-reads
 use Rattle.script.proofs.spaced.Reads as spaced-reads
 
 abbrev Inv-loop : tie.InvT-loop
-Inv-loop log at₀ at = at ≤ 160
+Inv-loop log at₀ at = 0 ≤ at
 
 abbrev μ-loop : tie.MeasureT-loop
-μ-loop log at₀ at = 160 - at
+μ-loop log at₀ at = log .count - at
 
 loop-holds : tie.Need-loop-holds Inv-loop μ-loop
 loop-holds c = search needs
 
-returns : tie.Need-returns Inv-loop μ-loop
-returns c = search needs
-
-mul-spaced : tie.Need-mul-spaced Inv-loop μ-loop
-mul-spaced c = search needs
-
-element-copy-out-spaced : tie.Need-element-copy-out-spaced Inv-loop μ-loop
-element-copy-out-spaced c = search needs
+number-at-requires : tie.Need-number-at-requires Inv-loop μ-loop
+number-at-requires c κs = search needs
 
 cast-spaced : tie.Need-cast-spaced Inv-loop μ-loop
 cast-spaced c = search needs
@@ -39,8 +34,8 @@ loop-less c = search needs
 loop-again : tie.Need-loop-again Inv-loop μ-loop
 loop-again c = search needs
 
-returns-2 : tie.Need-returns-2 Inv-loop μ-loop
-returns-2 c = search needs
+returns : tie.Need-returns Inv-loop μ-loop
+returns c = search needs
 
 pub print-spec : {M : Type 1} → statement M
 print-spec =
@@ -49,12 +44,10 @@ print-spec =
     Inv-loop
     μ-loop
     loop-holds
-    returns
-    mul-spaced
-    element-copy-out-spaced
+    number-at-requires
     cast-spaced
     spaced-requires
     add-at
     loop-less
     loop-again
-    returns-2)
+    returns)

@@ -1,28 +1,23 @@
--- `cases_calls::runs::rows` ends: the place rises to 160.
+-- `cases_calls::runs::rows` ends: the place rises to the log's count.
 -- Assumes nothing.
 use Prim.Native.Nat.{_-_, _≤_}
 use borrow.Author.Needs.{needs}
 use Rattle.cases_calls.proofs.runs.rows.Statement.{statement}
 use Rattle.cases_calls.proofs.runs.rows.Tie as tie
+use Rattle.cases_calls.proofs.number_at.Reads as number-at-reads
 use Rattle.cases_calls.proofs.runs.cell.Reads as cell-reads
 
 abbrev Inv-loop : tie.InvT-loop
-Inv-loop text l c log at₀ at = at ≤ 160
+Inv-loop text l c log at₀ at = 0 ≤ at
 
 abbrev μ-loop : tie.MeasureT-loop
-μ-loop text l c log at₀ at = 160 - at
+μ-loop text l c log at₀ at = log .count - at
 
 loop-holds : tie.Need-loop-holds Inv-loop μ-loop
 loop-holds c = search needs
 
-returns : tie.Need-returns Inv-loop μ-loop
-returns c = search needs
-
-mul-cell : tie.Need-mul-cell Inv-loop μ-loop
-mul-cell c = search needs
-
-element-copy-out-cell : tie.Need-element-copy-out-cell Inv-loop μ-loop
-element-copy-out-cell c = search needs
+number-at-requires : tie.Need-number-at-requires Inv-loop μ-loop
+number-at-requires c κs = search needs
 
 cell-requires : tie.Need-cell-requires Inv-loop μ-loop
 cell-requires c κs = search needs
@@ -36,8 +31,8 @@ loop-less c = search needs
 loop-again : tie.Need-loop-again Inv-loop μ-loop
 loop-again c = search needs
 
-returns-2 : tie.Need-returns-2 Inv-loop μ-loop
-returns-2 c = search needs
+returns : tie.Need-returns Inv-loop μ-loop
+returns c = search needs
 
 pub rows-spec : {M : Type 1} → statement M
 rows-spec =
@@ -46,11 +41,9 @@ rows-spec =
     Inv-loop
     μ-loop
     loop-holds
-    returns
-    mul-cell
-    element-copy-out-cell
+    number-at-requires
     cell-requires
     add-at
     loop-less
     loop-again
-    returns-2)
+    returns)

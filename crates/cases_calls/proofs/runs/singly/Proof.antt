@@ -1,10 +1,10 @@
--- `cases_calls::runs::singly` ends: the place rises to the trace's count, or to 160.
+-- `cases_calls::runs::singly` ends: the place rises to the trace's count.
 -- Assumes nothing.
 use Prim.Native.Nat.{_-_, _≤_}
 use borrow.Author.Needs.{needs}
 use Rattle.cases_calls.proofs.runs.singly.Statement.{statement}
 use Rattle.cases_calls.proofs.runs.singly.Tie as tie
-use Rattle.cases_calls.proofs.least.Reads as least-reads
+use Rattle.cases_calls.proofs.number_at.Reads as number-at-reads
 use Rattle.cases_calls.proofs.runs.call_line.Reads as call-line-reads
 use Rattle.cases_calls.proofs.runs.unwritten.Reads as unwritten-reads
 use Rattle.cases_calls.proofs.runs.with_call.Reads as with-call-reads
@@ -14,7 +14,7 @@ abbrev Inv-loop : tie.InvT-loop
 Inv-loop text l c trace log₀ state₀ at₀ log state at = 0 ≤ at
 
 abbrev μ-loop : tie.MeasureT-loop
-μ-loop text l c trace log₀ state₀ at₀ log state at = 160 - at
+μ-loop text l c trace log₀ state₀ at₀ log state at = trace .count - at
 
 unwritten-requires : tie.Need-unwritten-requires Inv-loop μ-loop
 unwritten-requires c κs = search needs
@@ -22,14 +22,8 @@ unwritten-requires c κs = search needs
 loop-holds : tie.Need-loop-holds Inv-loop μ-loop
 loop-holds c = search needs
 
-least-requires : tie.Need-least-requires Inv-loop μ-loop
-least-requires c κs = search needs
-
-mul-call-of : tie.Need-mul-call-of Inv-loop μ-loop
-mul-call-of c = search needs
-
-element-copy-out-call-of : tie.Need-element-copy-out-call-of Inv-loop μ-loop
-element-copy-out-call-of c = search needs
+number-at-requires : tie.Need-number-at-requires Inv-loop μ-loop
+number-at-requires c κs = search needs
 
 call-of-requires : tie.Need-call-of-requires Inv-loop μ-loop
 call-of-requires c κs = search needs
@@ -60,9 +54,7 @@ singly-spec =
     μ-loop
     unwritten-requires
     loop-holds
-    least-requires
-    mul-call-of
-    element-copy-out-call-of
+    number-at-requires
     call-of-requires
     call-line-requires
     with-call-requires

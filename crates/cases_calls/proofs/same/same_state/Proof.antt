@@ -1,30 +1,25 @@
--- `cases_calls::same::same_state` ends: the place rises to 128.
+-- `cases_calls::same::same_state` ends: the place rises to 269.
 -- Assumes nothing.
 use Prim.Native.Nat.{_-_, _≤_}
 use borrow.Author.Needs.{needs}
 use Rattle.cases_calls.proofs.same.same_state.Statement.{statement}
 use Rattle.cases_calls.proofs.same.same_state.Tie as tie
-use Rattle.cases_calls.proofs.same.same_flight.Reads as same-flight-reads
-use Rattle.cases_calls.proofs.same.same_queues.Reads as same-queues-reads
-use Rattle.cases_calls.proofs.same.same_turns.Reads as same-turns-reads
+use Rattle.cases_calls.proofs.same.of_state.Reads as of-state-reads
 
 abbrev Inv-loop : tie.InvT-loop
-Inv-loop a b at₀ at = at ≤ 128
+Inv-loop a b at₀ at = at ≤ 269
 
 abbrev μ-loop : tie.MeasureT-loop
-μ-loop a b at₀ at = 128 - at
+μ-loop a b at₀ at = 269 - at
 
 loop-holds : tie.Need-loop-holds Inv-loop μ-loop
 loop-holds c = search needs
 
-same-queues-requires : tie.Need-same-queues-requires Inv-loop μ-loop
-same-queues-requires c κs = search needs
+of-state-requires : tie.Need-of-state-requires Inv-loop μ-loop
+of-state-requires c κs = search needs
 
-same-turns-requires : tie.Need-same-turns-requires Inv-loop μ-loop
-same-turns-requires c κs = search needs
-
-same-flight-requires : tie.Need-same-flight-requires Inv-loop μ-loop
-same-flight-requires c κs = search needs
+of-state-requires-2 : tie.Need-of-state-requires-2 Inv-loop μ-loop
+of-state-requires-2 c κs = search needs
 
 returns : tie.Need-returns Inv-loop μ-loop
 returns c = search needs
@@ -48,9 +43,8 @@ same-state-spec =
     Inv-loop
     μ-loop
     loop-holds
-    same-queues-requires
-    same-turns-requires
-    same-flight-requires
+    of-state-requires
+    of-state-requires-2
     returns
     add-at
     loop-less

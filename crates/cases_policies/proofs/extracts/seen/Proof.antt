@@ -1,4 +1,4 @@
--- `cases_policies::extracts::seen` ends: the place rises to 160.
+-- `cases_policies::extracts::seen` ends: the place rises to the extract's count.
 -- Assumes nothing.
 use Prim.Native.Nat.{_-_, _≤_}
 use borrow.Author.Needs.{needs}
@@ -7,16 +7,17 @@ use Rattle.cases_policies.proofs.extracts.seen.Tie as tie
 use Rattle.cases_policies.proofs.extracts.answered.Reads as answered-reads
 use Rattle.cases_policies.proofs.extracts.cell.Reads as cell-reads
 use Rattle.cases_policies.proofs.extracts.extract_of.Reads as extract-of-reads
+use Rattle.cases_policies.proofs.number_at.Reads as number-at-reads
 use Rattle.cases_policies.proofs.words.Reads as words-reads
 
 abbrev Inv-loop : tie.InvT-loop
-Inv-loop text l c out at₀ at = at ≤ 160
+Inv-loop text l c out at₀ at = 0 ≤ at
 
 abbrev μ-loop : tie.MeasureT-loop
-μ-loop text l c out at₀ at = 160 - at
+μ-loop text l c out at₀ at = out .count - at
 
-element-copy-out-extract-of : tie.Need-element-copy-out-extract-of Inv-loop μ-loop
-element-copy-out-extract-of c = search needs
+number-at-requires : tie.Need-number-at-requires Inv-loop μ-loop
+number-at-requires c κs = search needs
 
 extract-of-requires : tie.Need-extract-of-requires Inv-loop μ-loop
 extract-of-requires c κs = search needs
@@ -33,14 +34,8 @@ words-requires c κs = search needs
 loop-holds : tie.Need-loop-holds Inv-loop μ-loop
 loop-holds c = search needs
 
-returns : tie.Need-returns Inv-loop μ-loop
-returns c = search needs
-
-mul-cell : tie.Need-mul-cell Inv-loop μ-loop
-mul-cell c = search needs
-
-element-copy-out-cell : tie.Need-element-copy-out-cell Inv-loop μ-loop
-element-copy-out-cell c = search needs
+number-at-requires-2 : tie.Need-number-at-requires-2 Inv-loop μ-loop
+number-at-requires-2 c κs = search needs
 
 cell-requires : tie.Need-cell-requires Inv-loop μ-loop
 cell-requires c κs = search needs
@@ -54,8 +49,8 @@ loop-less c = search needs
 loop-again : tie.Need-loop-again Inv-loop μ-loop
 loop-again c = search needs
 
-returns-2 : tie.Need-returns-2 Inv-loop μ-loop
-returns-2 c = search needs
+returns : tie.Need-returns Inv-loop μ-loop
+returns c = search needs
 
 pub seen-spec : {M : Type 1} → statement M
 seen-spec =
@@ -63,17 +58,15 @@ seen-spec =
     (tie.spec
     Inv-loop
     μ-loop
-    element-copy-out-extract-of
+    number-at-requires
     extract-of-requires
     answered-requires
     slice-aggregate-words
     words-requires
     loop-holds
-    returns
-    mul-cell
-    element-copy-out-cell
+    number-at-requires-2
     cell-requires
     add-at
     loop-less
     loop-again
-    returns-2)
+    returns)

@@ -4,43 +4,35 @@ use Prim.Native.Nat.{_-_, _≤_}
 use borrow.Author.Needs.{needs}
 use Rattle.cases_policies.proofs.policies.changed.Statement.{statement}
 use Rattle.cases_policies.proofs.policies.changed.Tie as tie
+use Rattle.cases_policies.proofs.number_at.Reads as number-at-reads
 use Rattle.cases_policies.proofs.policies.with_number.Reads as with-number-reads
 
 abbrev Inv-loop : tie.InvT-loop
-Inv-loop from list changed₀ at₀ changed at = 0 ≤ at
+Inv-loop list from changed₀ at₀ changed at = 0 ≤ at
 
 abbrev μ-loop : tie.MeasureT-loop
-μ-loop from list changed₀ at₀ changed at = 160 - at
+μ-loop list from changed₀ at₀ changed at = 160 - at
 
 loop-holds : tie.Need-loop-holds Inv-loop μ-loop
 loop-holds c = search needs
 
-mul-field : tie.Need-mul-field Inv-loop μ-loop
-mul-field c = search needs
-
-element-copy-out-field : tie.Need-element-copy-out-field Inv-loop μ-loop
-element-copy-out-field c = search needs
+number-at-requires : tie.Need-number-at-requires Inv-loop μ-loop
+number-at-requires c κs = search needs
 
 cast-field : tie.Need-cast-field Inv-loop μ-loop
 cast-field c = search needs
 
-add-with-number : tie.Need-add-with-number Inv-loop μ-loop
-add-with-number c = search needs
+add-number-at : tie.Need-add-number-at Inv-loop μ-loop
+add-number-at c = search needs
 
-mul-with-number : tie.Need-mul-with-number Inv-loop μ-loop
-mul-with-number c = search needs
+number-at-requires-2 : tie.Need-number-at-requires-2 Inv-loop μ-loop
+number-at-requires-2 c κs = search needs
 
-element-copy-out-with-number : tie.Need-element-copy-out-with-number Inv-loop μ-loop
-element-copy-out-with-number c = search needs
+add-number-at-2 : tie.Need-add-number-at-2 Inv-loop μ-loop
+add-number-at-2 c = search needs
 
-add-with-number-2 : tie.Need-add-with-number-2 Inv-loop μ-loop
-add-with-number-2 c = search needs
-
-mul-with-number-2 : tie.Need-mul-with-number-2 Inv-loop μ-loop
-mul-with-number-2 c = search needs
-
-element-copy-out-with-number-2 : tie.Need-element-copy-out-with-number-2 Inv-loop μ-loop
-element-copy-out-with-number-2 c = search needs
+number-at-requires-3 : tie.Need-number-at-requires-3 Inv-loop μ-loop
+number-at-requires-3 c κs = search needs
 
 with-number-requires : tie.Need-with-number-requires Inv-loop μ-loop
 with-number-requires c κs = search needs
@@ -64,15 +56,12 @@ changed-spec =
     Inv-loop
     μ-loop
     loop-holds
-    mul-field
-    element-copy-out-field
+    number-at-requires
     cast-field
-    add-with-number
-    mul-with-number
-    element-copy-out-with-number
-    add-with-number-2
-    mul-with-number-2
-    element-copy-out-with-number-2
+    add-number-at
+    number-at-requires-2
+    add-number-at-2
+    number-at-requires-3
     with-number-requires
     add-at
     loop-less

@@ -31,7 +31,7 @@ pub(crate) fn least(a: usize, b: usize) -> usize
     if a < b { a } else { b }
 }
 
-// The number of a list at an index, and 0 past its 160 places. (As a call it is one step of its caller's proof; as an index it is five.)
+// The number of a list at an index, and 0 past its 160 places. (A call is one step of its caller's proof, and an index some four.)
 pub(crate) fn number_at(list: List, index: usize) -> u32 {
     if index < 160 { list.at[index] } else { 0 }
 }

@@ -59,7 +59,7 @@ class Progress:
     """Says on standard error what is being built. On a terminal one line is written over and over; else each step is a line."""
 
     def __init__(self, total):
-        self.total, self.done, self.doing, self.began = total, 0, "the crates", time.monotonic()
+        self.total, self.done, self.doing, self.began = total, 0, "the first is being proved", time.monotonic()
         self.over = threading.Event()
         self.terminal = sys.stderr.isatty()
         self.ticker = threading.Thread(target=self._tick, daemon=True)
@@ -71,15 +71,14 @@ class Progress:
                 self._show()
 
     def _show(self):
-        sys.stderr.write("\r\033[Kproving %s: %d of %d crates, %d s" % (self.doing, self.done, self.total, time.monotonic() - self.began))
+        line = "%d of %d crates: %s, %d s in all" % (self.done, self.total, self.doing, time.monotonic() - self.began)
+        sys.stderr.write("\r\033[K" + line if self.terminal else line + "\n")
         sys.stderr.flush()
 
     def step(self, what):
-        self.done += 1
-        if self.terminal:
-            self._show()
-        else:
-            print("%d of %d crates: %s, %d s in all" % (self.done, self.total, what, time.monotonic() - self.began), file=sys.stderr)
+        """One crate more; what was said of it."""
+        self.done, self.doing = self.done + 1, what
+        self._show()
 
     def end(self):
         self.over.set()
@@ -135,7 +134,7 @@ def _build_alone():
     try:
         with open(BUILT / "build.log", "w") as log:
             _rt(["check", *CRATES], progress, log)
-            progress.doing = "nothing more, linking the library"
+            progress.doing = "the library is being linked"
             _rt(["staticlib", "capi"], None, log)
             archive = ROOT / "target" / "staticlib" / "libcapi.a"
             link = ["gcc", "-shared", "-o", shared, "-Wl,--whole-archive", archive, "-Wl,--no-whole-archive"]

@@ -27,6 +27,15 @@ pub(crate) fn words(text: &[u8]) {
     io::write_all(STDOUT_FILENO, text);
 }
 
+pub(crate) fn end_line() {
+    words(b"\n");
+}
+
+// Prints a number after a space.
+pub(crate) fn number(n: u32) {
+    script::spaced(n as usize);
+}
+
 pub(crate) fn least(a: usize, b: usize) -> usize
     ensures { λ r. ⌜ (r ≤ a) × (r ≤ b) ⌝ }
 {

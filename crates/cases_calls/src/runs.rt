@@ -1,7 +1,9 @@
 // Lists of calls made singly, and runs: their statuses, logs and states; a run cut in two at every place, and one made by single calls.
 
 use super::Case;
+use super::end_line;
 use super::least;
+use super::number;
 use super::number_at;
 use super::same;
 use super::singles;
@@ -10,7 +12,6 @@ use super::words;
 use policy::Policy;
 use script::Line;
 use script::List;
-use state::Ran;
 use state::State;
 
 // What every number of a log is before a run.
@@ -21,14 +22,6 @@ struct Run {
     status: u32,
     state: State,
     log: List,
-}
-
-// A log that no run has written yet.
-fn unwritten(count: usize) -> List {
-    List {
-        at: [MARKER; 160],
-        count,
-    }
 }
 
 // The numbers of a list between two places.
@@ -46,43 +39,16 @@ fn part(list: &[u32; 160], from: usize, to: usize) -> &[u32] {
     between(all, from, to)
 }
 
-// A run into a log between two places.
-fn run_between(p: Policy, s: State, trace: &[u32], log: &mut [u32], from: usize, to: usize) -> Ran {
-    if to <= log.len() {
-        if from <= to {
-            return log::run(p, s, trace, &mut log[from..to]);
-        }
-    }
-    log::run(p, s, trace, log)
-}
-
-fn run_into(
-    p: Policy,
-    s: State,
-    trace: &[u32],
-    log: &mut [u32; 160],
-    from: usize,
-    to: usize,
-) -> Ran {
-    run_between(p, s, trace, &mut log[..], from, to)
-}
-
-// A run over a trace from a place of it on, into a log from a place of it on.
-fn run_from(p: Policy, s: State, trace: List, from: usize, log: List, start: usize) -> Run {
+// A run over a trace from a place of it on, into a log of so many numbers, 160 or less.
+fn run_of(p: Policy, s: State, trace: List, from: usize, room: usize) -> Run {
     let numbers = trace.at;
-    let mut logged = log.at;
-    let made = run_into(
-        p,
-        s,
-        part(&numbers, from, trace.count),
-        &mut logged,
-        start,
-        log.count,
-    );
+    let mut log = [MARKER; 160];
+    let most = least(room, 160);
+    let made = log::run(p, s, part(&numbers, from, trace.count), &mut log[0..most]);
     let state = made.state;
     let list = List {
-        at: logged,
-        count: log.count,
+        at: log,
+        count: most,
     };
     Run {
         status: made.status,
@@ -91,21 +57,17 @@ fn run_from(p: Policy, s: State, trace: List, from: usize, log: List, start: usi
     }
 }
 
-fn run_of(p: Policy, s: State, trace: List, room: usize) -> Run {
-    run_from(p, s, trace, 0, unwritten(room), 0)
-}
-
 // The state after the calls of a trace, from a policy's fresh state.
 pub(crate) fn state_of(p: Policy, trace: List) -> State {
     let fresh = state::fresh(p);
-    let made = run_of(p, fresh.state, trace, 160);
+    let made = run_of(p, fresh.state, trace, 0, 160);
     let s = made.state;
     s
 }
 
 // A run's status, and whether the state is as it was.
 fn ran(before: State, made: Run) {
-    script::spaced(made.status as usize);
+    number(made.status);
     singles::stands(before, made.state);
 }
 
@@ -121,9 +83,9 @@ fn cell(text: &[u8], l: Line, c: Case, at: usize, value: u32) {
     if at % 4 == 0 {
         label(text, l, c, at / 4);
     }
-    script::spaced(value as usize);
+    number(value);
     if at % 4 == 3 {
-        words(b"\n");
+        end_line();
     }
 }
 
@@ -140,7 +102,7 @@ fn rows(text: &[u8], l: Line, c: Case, log: List) {
 fn print(log: List) {
     let mut at = 0;
     while at < log.count {
-        script::spaced(number_at(log, at) as usize);
+        number(number_at(log, at));
         at += 1;
     }
 }
@@ -148,9 +110,9 @@ fn print(log: List) {
 // A run, and its log by lines.
 pub(crate) fn list(text: &[u8], l: Line, c: Case) {
     let trace = c.trace;
-    let made = run_of(c.policy, c.state, trace, 4 * least(trace.count, 40));
+    let made = run_of(c.policy, c.state, trace, 0, 4 * least(trace.count, 40));
     ran(c.state, made);
-    words(b"\n");
+    end_line();
     rows(text, l, c, made.log);
 }
 
@@ -158,35 +120,39 @@ pub(crate) fn list(text: &[u8], l: Line, c: Case) {
 pub(crate) fn whole(c: Case) {
     let mut trace = c.trace;
     trace.count = number_at(c.own, 0) as usize;
-    let made = run_of(c.policy, c.state, trace, number_at(c.own, 1) as usize);
+    let room = number_at(c.own, 1) as usize;
+    let made = run_of(c.policy, c.state, trace, 0, room);
     ran(c.state, made);
     words(b", log");
     print(made.log);
-    words(b"\n");
+    end_line();
 }
 
 // A run over 40 numbers in one piece, its status and its log by lines.
 pub(crate) fn plain(text: &[u8], l: Line, c: Case) {
-    let one = run_of(c.policy, c.state, c.trace, 160);
-    script::spaced(one.status as usize);
-    words(b"\n");
+    let one = run_of(c.policy, c.state, c.trace, 0, 160);
+    number(one.status);
+    end_line();
     rows(text, l, c, one.log);
 }
 
-fn same_log(a: List, b: List) -> bool {
+// Whether the numbers of a list stand in another, from a place of it on.
+fn stands_in(list: List, all: List, from: usize) -> bool {
+    let start = least(from, 160);
+    let end = least(list.count, 160);
     let mut at = 0;
-    while at < 160 {
-        if number_at(a, at) != number_at(b, at) {
+    while at < end {
+        if number_at(list, at) != number_at(all, start + at) {
             return false;
         }
         at += 1;
     }
-    a.count == b.count
+    true
 }
 
 // Whether two ways to make the same calls lead to one state and one log.
-fn agree(a: Run, b: Run) {
-    if same::same_state(a.state, b.state) & same_log(a.log, b.log) {
+fn agree(same: bool) {
+    if same {
         words(b" the same state, the same log\n");
     } else {
         words(b" another state or another log\n");
@@ -195,20 +161,18 @@ fn agree(a: Run, b: Run) {
 
 // Two runs that meet at a place, beside the run in one piece: PLACE.
 pub(crate) fn halves(c: Case) {
-    let place = number_at(c.own, 0) as usize;
-    let one = run_of(c.policy, c.state, c.trace, 160);
+    let place = least(number_at(c.own, 0) as usize, 40);
+    let written = 4 * place;
     let mut start = c.trace;
     start.count = place;
-    let before = run_of(c.policy, c.state, start, 160);
-    let both = run_from(
-        c.policy,
-        before.state,
-        c.trace,
-        place,
-        before.log,
-        4 * least(place, 40),
+    let first = run_of(c.policy, c.state, start, 0, written);
+    let second = run_of(c.policy, first.state, c.trace, place, 160 - written);
+    let one = run_of(c.policy, c.state, c.trace, 0, 160);
+    agree(
+        same::same_state(one.state, second.state)
+            & stands_in(first.log, one.log, 0)
+            & stands_in(second.log, one.log, written),
     );
-    agree(one, both);
 }
 
 // A list with a number more, where there is room.
@@ -241,7 +205,10 @@ fn call_line(text: &[u8], l: Line, c: Case, at: usize, before: State, made: Call
 // The calls of a trace one after the other, with a line for each if they are to be shown, and what a run over them is to answer.
 fn singly(text: &[u8], l: Line, c: Case) -> Run {
     let trace = c.trace;
-    let mut log = unwritten(0);
+    let mut log = List {
+        at: [MARKER; 160],
+        count: 0,
+    };
     let mut state = c.state;
     let mut at = 0;
     while at < trace.count {
@@ -264,6 +231,7 @@ pub(crate) fn single(text: &[u8], l: Line, c: Case) {
 
 // The single calls, beside the run in one piece.
 pub(crate) fn unshown(text: &[u8], l: Line, c: Case) {
-    let one = run_of(c.policy, c.state, c.trace, 160);
-    agree(one, singly(text, l, c));
+    let one = run_of(c.policy, c.state, c.trace, 0, 160);
+    let made = singly(text, l, c);
+    agree(same::same_state(one.state, made.state) & stands_in(made.log, one.log, 0));
 }

@@ -1,6 +1,8 @@
 // Offers, ticks and fresh states.
 
 use super::Case;
+use super::end_line;
+use super::number;
 use super::number_at;
 use super::same;
 use super::words;
@@ -28,14 +30,14 @@ pub(crate) fn stands(before: State, after: State) {
 
 // The four log numbers, for a refused call whether the state is as it was, and the line's end.
 pub(crate) fn show(before: State, made: Called) {
-    script::spaced(made.status as usize);
-    script::spaced(made.command as usize);
-    script::spaced(made.response as usize);
-    script::spaced(made.turn as usize);
+    number(made.status);
+    number(made.command);
+    number(made.response);
+    number(made.turn);
     if made.status != 0 {
         stands(before, made.state);
     }
-    words(b"\n");
+    end_line();
 }
 
 fn tick_of(p: Policy, s: State) -> Called {
@@ -101,9 +103,9 @@ pub(crate) fn tick(c: Case) {
 // What asking a fresh state of a policy answers.
 pub(crate) fn fresh(c: Case) {
     let made = state::fresh(c.policy);
-    script::spaced(made.status as usize);
+    number(made.status);
     if same::all_zeros(made.state) {
         words(b", all zeros");
     }
-    words(b"\n");
+    end_line();
 }

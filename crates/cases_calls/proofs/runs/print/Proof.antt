@@ -4,8 +4,8 @@ use Prim.Native.Nat.{_-_, _≤_}
 use borrow.Author.Needs.{needs}
 use Rattle.cases_calls.proofs.runs.print.Statement.{statement}
 use Rattle.cases_calls.proofs.runs.print.Tie as tie
+use Rattle.cases_calls.proofs.number.Reads as number-reads
 use Rattle.cases_calls.proofs.number_at.Reads as number-at-reads
-use Rattle.script.proofs.spaced.Reads as spaced-reads
 
 abbrev Inv-loop : tie.InvT-loop
 Inv-loop log at₀ at = 0 ≤ at
@@ -19,11 +19,8 @@ loop-holds c = search needs
 number-at-requires : tie.Need-number-at-requires Inv-loop μ-loop
 number-at-requires c κs = search needs
 
-cast-spaced : tie.Need-cast-spaced Inv-loop μ-loop
-cast-spaced c = search needs
-
-spaced-requires : tie.Need-spaced-requires Inv-loop μ-loop
-spaced-requires c κs = search needs
+number-requires : tie.Need-number-requires Inv-loop μ-loop
+number-requires c κs = search needs
 
 add-at : tie.Need-add-at Inv-loop μ-loop
 add-at c = search needs
@@ -45,8 +42,7 @@ print-spec =
     μ-loop
     loop-holds
     number-at-requires
-    cast-spaced
-    spaced-requires
+    number-requires
     add-at
     loop-less
     loop-again

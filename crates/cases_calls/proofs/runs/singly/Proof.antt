@@ -6,7 +6,6 @@ use Rattle.cases_calls.proofs.runs.singly.Statement.{statement}
 use Rattle.cases_calls.proofs.runs.singly.Tie as tie
 use Rattle.cases_calls.proofs.number_at.Reads as number-at-reads
 use Rattle.cases_calls.proofs.runs.call_line.Reads as call-line-reads
-use Rattle.cases_calls.proofs.runs.unwritten.Reads as unwritten-reads
 use Rattle.cases_calls.proofs.runs.with_call.Reads as with-call-reads
 use Rattle.cases_calls.proofs.singles.call_of.Reads as call-of-reads
 
@@ -15,9 +14,6 @@ Inv-loop text l c trace log₀ state₀ at₀ log state at = 0 ≤ at
 
 abbrev μ-loop : tie.MeasureT-loop
 μ-loop text l c trace log₀ state₀ at₀ log state at = trace .count - at
-
-unwritten-requires : tie.Need-unwritten-requires Inv-loop μ-loop
-unwritten-requires c κs = search needs
 
 loop-holds : tie.Need-loop-holds Inv-loop μ-loop
 loop-holds c = search needs
@@ -52,7 +48,6 @@ singly-spec =
     (tie.spec
     Inv-loop
     μ-loop
-    unwritten-requires
     loop-holds
     number-at-requires
     call-of-requires

@@ -1,7 +1,11 @@
 // The script of a test program: where its lines stand, which numbers they hold, and what is printed of them. No contract can say what is printed.
 
-ghost use Prim.Native.Nat.{_≤_, _<_};
-ghost use lib.ListN.{length};
+ghost use mathlib.Core.Path.{_≡_};
+ghost use mathlib.Core.Bool.{cond};
+ghost use Prim.Native.Nat.{_<_};
+ghost use lib.Dec.{eqb};
+ghost use lib.ListN.{length, getD};
+ghost use Rattle.script.specs.Script.{after, nextLine, digitOf, grown, tokenAfter, withToken, numbersOf};
 use libc::STDOUT_FILENO;
 
 // A line: its first letter, where its name and its numbers start, and where the next line does; and of the lines before it that it goes by, where their numbers start.
@@ -29,13 +33,16 @@ struct Token {
 }
 
 // The byte at a place, and 0 past the end.
-fn byte(text: &[u8], at: usize) -> u8 {
+fn byte(text: &[u8], at: usize) -> u8
+    ensures { λ r. ⌜ r ≡ getD (now (text .entry)) at 0 ⌝ }
+{
     if at < text.len() { text[at] } else { 0 }
 }
 
 // The place after the first byte, from a place on, after which another does not stand, and the text's length where there is none.
 fn after(text: &[u8], from: usize, wanted: u8, unwanted: u8) -> usize
-    ensures { λ r. ⌜ (from < length (now (text .entry)) → from < r) ⌝ }
+    ensures place { λ r. ⌜ r ≡ after (now (text .entry)) from wanted unwanted ⌝ }
+    ensures onward { λ r. ⌜ (from < length (now (text .entry)) → from < r) ⌝ }
 {
     let mut at = from;
     while at < text.len() {
@@ -47,37 +54,37 @@ fn after(text: &[u8], from: usize, wanted: u8, unwanted: u8) -> usize
     text.len()
 }
 
+// A number, where a line has the letter that it is to have, else the one from the lines before.
+fn kept(letter: u8, wanted: u8, number: usize, earlier: usize) -> usize
+    ensures { λ r. ⌜ r ≡ cond (eqb letter wanted) number earlier ⌝ }
+{
+    if letter == wanted { number } else { earlier }
+}
+
 // The line after another. One that holds what later lines go by is remembered.
 pub fn next_line(text: &[u8], earlier: Line) -> Line
-    ensures { λ r. ⌜ (earlier .next < length (now (text .entry)) → earlier .next < r .next) ⌝ }
+    ensures line { λ r. ⌜ r ≡ nextLine (now (text .entry)) earlier ⌝ }
+    ensures onward { λ r. ⌜ (earlier .next < length (now (text .entry)) → earlier .next < r .next) ⌝ }
 {
     let at = earlier.next;
     let letter = byte(text, at);
-    let mut l = earlier;
-    l.letter = letter;
-    l.name = after(text, at, b' ', b' ');
-    l.numbers = after(text, at, b':', b':');
-    l.next = after(text, at, b'\n', b' ');
-    match letter {
-        b'F' => {
-            l.file = l.numbers;
-        }
-        b'S' => {
-            l.state = l.numbers;
-        }
-        b'T' => {
-            l.trace = l.numbers;
-        }
-        b'L' => {
-            l.log = l.numbers;
-        }
-        _ => {}
+    let numbers = after(text, at, b':', b':');
+    Line {
+        letter,
+        name: after(text, at, b' ', b' '),
+        numbers,
+        next: after(text, at, b'\n', b' '),
+        file: kept(letter, b'F', numbers, earlier.file),
+        state: kept(letter, b'S', numbers, earlier.state),
+        trace: kept(letter, b'T', numbers, earlier.trace),
+        log: kept(letter, b'L', numbers, earlier.log),
     }
-    l
 }
 
 // The value of a digit, up to F.
-fn digit(b: u8) -> u64 {
+fn digit(b: u8) -> u64
+    ensures { λ r. ⌜ r ≡ digitOf b ⌝ }
+{
     if b < 48 {
         return 0;
     }
@@ -87,7 +94,10 @@ fn digit(b: u8) -> u64 {
     (b - 55) as u64
 }
 
-fn grown(base: u32, value: u32, b: u8) -> u32 {
+// A number with a digit more.
+fn grown(base: u32, value: u32, b: u8) -> u32
+    ensures { λ r. ⌜ r ≡ grown base value b ⌝ }
+{
     let low = digit(b) % 16;
     if base == 16 {
         return ((16 * (value as u64) + low) % 4294967296) as u32;
@@ -96,7 +106,9 @@ fn grown(base: u32, value: u32, b: u8) -> u32 {
 }
 
 // What is read once a byte more is.
-fn token_after(t: Token, b: u8) -> Token {
+fn token_after(t: Token, b: u8) -> Token
+    ensures { λ r. ⌜ r ≡ tokenAfter t b ⌝ }
+{
     if b <= 32 {
         return Token { base: 0, value: 0 };
     }
@@ -126,7 +138,7 @@ fn token_after(t: Token, b: u8) -> Token {
 
 // A list with a number more, where one has ended and there is room.
 fn with_token(list: List, before: Token, after: Token) -> List
-    ensures { λ r. ⌜ r .count ≤ 160 ⌝ }
+    ensures { λ r. ⌜ r ≡ withToken list before after ⌝ }
 {
     let mut longer = list;
     let count = list.count;
@@ -144,7 +156,7 @@ fn with_token(list: List, before: Token, after: Token) -> List
 
 // The numbers that start at a place, to the end of their line. A line that starts with a space goes on with the one before it.
 pub fn numbers(text: &[u8], from: usize) -> List
-    ensures { λ r. ⌜ r .count ≤ 160 ⌝ }
+    ensures { λ r. ⌜ r ≡ numbersOf (now (text .entry)) from ⌝ }
 {
     let end = after(text, from, b'\n', b' ');
     let mut list = List {

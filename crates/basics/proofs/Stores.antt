@@ -1,4 +1,4 @@
--- A store leaves what was stored at its place, and at any other what stood there; a run of stores, `sets`, behind what is written already adds to it.
+-- Past a list's end stands 0. A store leaves what was stored at its place, and at any other what stood there; a run of stores, `sets`, behind what is written already adds to it.
 -- Assumes nothing.
 use mathlib.Core.Path.{_≡_, sym, ap, _∙_, subst}
 use mathlib.Core.Logic.{_≢_, ⊎-elim}
@@ -8,9 +8,13 @@ use native.Mathlib.Nat.{add-zero}
 use native.Mathlib.Omega.{arith}
 use borrow.Author.Tests.{eqb-true, eqb-false}
 use lib.Dec.{eqb}
-use lib.ListN.{length, getD, set, drop, length-append, length-drop}
+use lib.ListN.{length, getD, set, drop, length-append, length-drop, List·getD-eq-default}
 use lib.Seq.{getD-set-same, getD-set-other, sets, sets-eq, take-at, drop-append-add, drop-drop}
 use Rattle.basics.proofs.Truth.{either}
+
+-- past the end of a list of so many stands 0
+pub past-end : {n : ℕ} (l : List ℕ) (i : ℕ) → length l ≡ n → n ≤ i → 0 ≡ getD l i 0
+past-end l i long past = sym (List·getD-eq-default l 0 (omega (arith, long)))
 
 -- what holds of one number, and of a number if it is another, holds of that number
 pub same-or-other : (P : ℕ → Type 0) (i j : ℕ) → P i → (j ≢ i → P j) → P j

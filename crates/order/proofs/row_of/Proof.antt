@@ -1,10 +1,7 @@
--- `order::row_of` meets its contract: past the list's end `getD` gives 0.
+-- `order::row_of` meets its contract: past the list's end stands 0.
 -- Assumes nothing.
-use mathlib.Core.Path.{_≡_, sym}
-use Prim.Native.Nat.{_≤_}
-use native.Mathlib.Omega.{arith}
 use borrow.Author.Needs.{needs}
-use lib.ListN.{length, List·getD-eq-default}
+use Rattle.basics.proofs.Stores.{past-end}
 use Rattle.order.proofs.row_of.Statement.{statement}
 use Rattle.order.proofs.row_of.Tie as tie
 
@@ -18,12 +15,7 @@ returns : tie.Need-returns
 returns c = search needs
 
 returns-2 : tie.Need-returns-2
-returns-2 c =
-    let start = c .before in
-    let rows = start .args .t1 in
-    let long : length rows ≡ 16 = search needs in
-    let past : length rows ≤ start .args .class = omega arith in
-    sym (List·getD-eq-default rows 0 past)
+returns-2 c = past-end (c .before .args .t1) (c .before .args .class) (search needs) (c .if1 .left)
 
 pub row-of-spec : {M : Type 1} → statement M
 row-of-spec = tie.close (tie.spec mul-result array-read-result returns returns-2)

@@ -62,22 +62,31 @@ byte-requires-2 c κs = search needs
 add-result : tie.Need-add-result Inv-loop μ-loop
 add-result c = search needs
 
+-- what the code's test, after its two bytes are read, tells of the place where the loop stands
+module _ (b : tie.After-byte2 Inv-loop μ-loop) where
+  abbrev here : tie.At-loop Inv-loop μ-loop
+  here = b .before .before .before
+
+  abbrev start : tie.Start Inv-loop μ-loop
+  start = here .before .before
+
+  tested : {v : Bool} → (eqb (b .before .byte .result) (start .args .wanted) && not (eqb (b .byte2 .result) (start .args .unwanted))) ≡ v → test (start .args .text .now) (start .args .from) (start .args .wanted) (start .args .unwanted) (here .loop .at - start .args .from) ≡ v
+  tested t =
+      let a = start .args in
+      ap (standsAt (a .text .now) (a .wanted) (a .unwanted)) (distance (here .loop .inv .0))
+      ∙ stood (a .text .now) (a .wanted) (a .unwanted) (here .loop .at) (b .before .byte .ensures) (b .byte2 .ensures) t
+
 returns : tie.Need-returns Inv-loop μ-loop
 unfolding after
 returns c =
-    let at-byte2 = c .before in
-    let at-byte = at-byte2 .before in
-    let in-loop = at-byte .before in
+    let in-loop = c .before .before .before in
     let at-loop = in-loop .before in
     let a = at-loop .before .before .args in
     let text = a .text .now in
     let at = at-loop .loop .at in
     let inv = at-loop .loop .inv in
-    let here : test text (a .from) (a .wanted) (a .unwanted) (at - a .from) ≡ true =
-    ap (standsAt text (a .wanted) (a .unwanted)) (distance (inv .0)) ∙ stood text (a .wanted) (a .unwanted) at (at-byte .byte .ensures) (at-byte2 .byte2 .ensures) (c .if1 .taken)
-    in
     let below : at - a .from < length text - a .from = omega (arith, inv .0, in-loop .loop-test .taken) in
-    let found = found-is text (a .from) (a .wanted) (a .unwanted) (at - a .from) (found-at (test text (a .from) (a .wanted) (a .unwanted)) (length text - a .from) (at - a .from) (inv .1) below here) ∙ distance (inv .0) in
+    let found = found-is text (a .from) (a .wanted) (a .unwanted) (at - a .from) (found-at (test text (a .from) (a .wanted) (a .unwanted)) (length text - a .from) (at - a .from) (inv .1) below (tested (c .before) (c .if1 .taken))) ∙ distance (inv .0) in
     (rw (found, lt-ltb at (length text) (in-loop .loop-test .taken)), λ l. omega (arith, inv .0))
 
 add-at : tie.Need-add-at Inv-loop μ-loop
@@ -88,22 +97,16 @@ loop-less c = search needs
 
 loop-again : tie.Need-loop-again Inv-loop μ-loop
 loop-again c =
-    let at-byte2 = c .before in
-    let at-byte = at-byte2 .before in
-    let in-loop = at-byte .before in
+    let in-loop = c .before .before .before in
     let at-loop = in-loop .before in
     let a = at-loop .before .before .args in
-    let text = a .text .now in
     let at = at-loop .loop .at in
     let inv = at-loop .loop .inv in
-    let f = test text (a .from) (a .wanted) (a .unwanted) in
-    let n = length text - a .from in
-    let not-here : f (at - a .from) ≡ false =
-    ap (standsAt text (a .wanted) (a .unwanted)) (distance (inv .0)) ∙ stood text (a .wanted) (a .unwanted) at (at-byte .byte .ensures) (at-byte2 .byte2 .ensures) (c .if1 .left)
-    in
+    let f = test (a .text .now) (a .from) (a .wanted) (a .unwanted) in
+    let n = length (a .text .now) - a .from in
     let below : at - a .from < n = omega (arith, inv .0, in-loop .loop-test .taken) in
     let next : at - a .from + 1 ≡ at + 1 - a .from = omega (arith, inv .0) in
-    (omega (arith, inv .0), subst (λ (i : ℕ). Missed f n i) next (missed-more f n (at - a .from) (inv .1) below not-here))
+    (omega (arith, inv .0), subst (λ (i : ℕ). Missed f n i) next (missed-more f n (at - a .from) (inv .1) below (tested (c .before) (c .if1 .left))))
 
 returns-2 : tie.Need-returns-2 Inv-loop μ-loop
 unfolding after

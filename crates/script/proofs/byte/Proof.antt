@@ -1,8 +1,8 @@
--- `script::byte` meets its contract: past the end a list's default stands.
+-- `script::byte` meets its contract: past the text's end stands 0.
 -- Assumes nothing.
-use mathlib.Core.Path.{sym}
+use mathlib.Core.Path.{refl}
 use borrow.Author.Needs.{needs}
-use lib.ListN.{List·getD-eq-default}
+use Rattle.basics.proofs.Stores.{past-end}
 use Rattle.script.proofs.byte.Statement.{statement}
 use Rattle.script.proofs.byte.Tie as tie
 
@@ -13,7 +13,7 @@ returns : tie.Need-returns
 returns c = search needs
 
 returns-2 : tie.Need-returns-2
-returns-2 c = sym (List·getD-eq-default (c .before .args .text .now) 0 (c .if1 .left))
+returns-2 c = past-end (c .before .args .text .now) (c .before .args .at) refl (c .if1 .left)
 
 pub byte-spec : {M : Type 1} → statement M
 byte-spec = tie.close (tie.spec shared-slice-read-result returns returns-2)

@@ -233,5 +233,11 @@ pub(crate) fn single(text: &[u8], l: Line, c: Case) {
 pub(crate) fn unshown(text: &[u8], l: Line, c: Case) {
     let one = run_of(c.policy, c.state, c.trace, 0, 160);
     let made = singly(text, l, c);
-    agree(same::same_state(one.state, made.state) & stands_in(made.log, one.log, 0));
+    let whole = one.log;
+    let log = made.log;
+    agree(
+        same::same_state(one.state, made.state)
+            & (log.count == whole.count)
+            & stands_in(log, whole, 0),
+    );
 }

@@ -24,7 +24,7 @@ const REFUSALS: [u32; 12] = [1, 2, 3, 4, 5, 6, 7, 8, 9, 10, 11, 14];
 const FAIR: u64 = 5;
 
 /// Everything else that is counted.
-const CASES: [&str; 54] = [
+const CASES: [&str; 58] = [
     "file under 17 bytes",
     "file above 65,535 bytes",
     "least class not 0",
@@ -50,6 +50,11 @@ const CASES: [&str; 54] = [
     "a chain of sixteen walked to its top",
     "a trial walk to the top of a chain of sixteen",
     "a mark that goes back to 1 from fifteen children",
+    // By a class with two or more children.
+    "taken while the mark stays 0, and a later turn passed on",
+    "taken while the mark stays above 0, and a later turn passed on",
+    "a trial walk that passes on from a class with two or more children",
+    "kept, but dropped by the unmoved marks",
     "dropped, the owner is the least class",
     "dropped, the trial walk passes classes without turns left",
     "kept, a class may not flow to the owner",
@@ -162,8 +167,9 @@ impl Coverage {
         let trace = read_trace(&folder.trace);
         self.met(&left_over_name(trace.left_over));
         let (mut state, _) = state::fresh(&policy);
+        let mut taken = vec![Taken::default(); policy.class_count()];
         for &number in &trace.numbers {
-            self.add_call(&policy, &mut state, number);
+            self.add_call(&policy, &mut state, &mut taken, number);
         }
         let in_a_row = |length: usize, tick: bool| {
             let mut windows = trace.numbers.windows(length);
@@ -211,12 +217,17 @@ impl Coverage {
         );
     }
 
-    fn add_call(&mut self, policy: &Policy, state: &mut State, number: u32) {
+    fn add_call(&mut self, policy: &Policy, state: &mut State, taken: &mut [Taken], number: u32) {
         match Word::of(number) {
             Word::Tick => {
-                let mark = state.classes[policy.least()].pointer;
+                let marks: Vec<usize> = state.classes.iter().map(|own| own.pointer).collect();
                 match tick_in_range(policy, state, Planted::Nothing) {
-                    Ok(record) => self.add_tick(policy, state, &record, mark),
+                    Ok(record) => {
+                        self.add_tick(policy, state, &record);
+                        if record.turn.is_some() {
+                            self.add_marks(policy, state, &marks, taken);
+                        }
+                    }
                     Err(refusal) => self.met(&refusal_name(refusal.number())),
                 }
             }
@@ -280,19 +291,11 @@ impl Coverage {
         self.met_if(waiting == QUEUE_LIMIT, "a queue filled up");
     }
 
-    /// Counts a tick by its record, the state after it, and the mark of the least
-    /// class before it.
-    fn add_tick(&mut self, policy: &Policy, state: &State, record: &TickRecord, mark: usize) {
+    /// Counts a tick by its record and the state after it.
+    fn add_tick(&mut self, policy: &Policy, state: &State, record: &TickRecord) {
         let cycle = state.cycle - 1;
         if record.turn.is_some() {
             self.add_turn(policy, state, turn_number(policy, cycle));
-            let least = policy.least();
-            let back = mark == 15 && state.classes[least].pointer == 1;
-            let fifteen = policy.covers_of(least).len() == 15;
-            self.met_if(
-                fifteen && back,
-                "a mark that goes back to 1 from fifteen children",
-            );
         }
         let offset = offset(policy, cycle);
         match record.wires {
@@ -351,6 +354,37 @@ impl Coverage {
         }
     }
 
+    /// Counts what a turn's walk did with the marks, by those before its first
+    /// tick and the state after it.
+    ///
+    /// Where there are two children or more, a mark that moves is another one, so
+    /// the class passed the turn on if and only if its mark is another.
+    fn add_marks(&mut self, policy: &Policy, state: &State, before: &[usize], taken: &mut [Taken]) {
+        for (class, &mark) in before.iter().enumerate() {
+            let children = policy.covers_of(class).len();
+            if children < 2 {
+                continue;
+            }
+            let after = state.classes[class].pointer;
+            if after != mark {
+                self.met_if(
+                    children == 15 && mark == 15 && after == 1,
+                    "a mark that goes back to 1 from fifteen children",
+                );
+                let Taken { at_0, above_0 } = std::mem::take(&mut taken[class]);
+                for _ in 0..at_0 {
+                    self.met("taken while the mark stays 0, and a later turn passed on");
+                }
+                for _ in 0..above_0 {
+                    self.met("taken while the mark stays above 0, and a later turn passed on");
+                }
+            } else if class == state.owner {
+                taken[class].at_0 += u64::from(mark == 0);
+                taken[class].above_0 += u64::from(mark > 0);
+            }
+        }
+    }
+
     /// Counts a turn's start by the state after its first tick, which has the
     /// owner, pointers and turns left that the trial walk went by.
     fn add_turn(&mut self, policy: &Policy, state: &State, turn: u32) {
@@ -364,7 +398,18 @@ impl Coverage {
             }
         }
         let by = turns_left_before_next(policy, turn);
-        let outcome = lookahead(policy, state, by);
+        let trial = lookahead(policy, state, by, Planted::Nothing);
+        let outcome = trial.end;
+        let mut passed_on = trial.passed_on.iter();
+        self.met_if(
+            passed_on.any(|&class| policy.covers_of(class).len() > 1),
+            "a trial walk that passes on from a class with two or more children",
+        );
+        let unmoved = lookahead(policy, state, by, Planted::TrialByUnmovedMarks).end;
+        self.met_if(
+            outcome != Lookahead::ReachesOwner && unmoved == Lookahead::ReachesOwner,
+            "kept, but dropped by the unmoved marks",
+        );
         if is_chain_of_sixteen(policy) && policy.covers_of(state.owner).is_empty() {
             self.met("a chain of sixteen walked to its top");
             self.met_if(
@@ -379,7 +424,7 @@ impl Coverage {
             Lookahead::MeetsClassThatMayNotFlow => "kept, a class may not flow to the owner",
             Lookahead::MeetsClassWithTurnsLeft => "kept, a class has turns left",
         });
-        let without_caps = lookahead(policy, state, TurnsLeft::OfThisEpoch);
+        let without_caps = lookahead(policy, state, TurnsLeft::OfThisEpoch, Planted::Nothing).end;
         self.met_if(
             outcome != Lookahead::ReachesOwner && without_caps == Lookahead::ReachesOwner,
             "kept by the caps of the next epoch alone",
@@ -392,6 +437,14 @@ impl Coverage {
             "dropped by document 000's test alone",
         );
     }
+}
+
+/// The turns that a class with two or more children has taken since it last
+/// passed one on, by the mark that stayed.
+#[derive(Clone, Copy, Default)]
+struct Taken {
+    at_0: u64,
+    above_0: u64,
 }
 
 /// With a least class and one child at most, all are in a row.

@@ -5,7 +5,15 @@ use crate::policy::Policy;
 use crate::state::State;
 use crate::walk::{moved_pointer, named_cover};
 
-/// How the lookahead (document 01: trial walk) ends.
+/// The lookahead (document 01: trial walk).
+#[derive(Clone, Debug, PartialEq, Eq)]
+pub(crate) struct Trial {
+    pub(crate) end: Lookahead,
+    /// The classes that it passes on from, in its order.
+    pub(crate) passed_on: Vec<usize>,
+}
+
+/// How the lookahead ends.
 #[derive(Clone, Copy, Debug, PartialEq, Eq)]
 pub(crate) enum Lookahead {
     /// The owner is reached: the dead time is dropped.
@@ -39,7 +47,7 @@ pub(crate) fn is_elided(policy: &Policy, state: &State, turn: u32, planted: Plan
         Planted::EpochEndForgottenAboveFive if policy.epoch > 5 => TurnsLeft::OfThisEpoch,
         _ => turns_left_before_next(policy, turn),
     };
-    let end = lookahead(policy, state, by);
+    let end = lookahead(policy, state, by, planted).end;
     // Not a rule: a leak that tests plant.
     if planted == Planted::IncomparableForgottenForOwner15 && state.owner == 15 {
         return end != Lookahead::MeetsClassWithTurnsLeft;
@@ -60,28 +68,44 @@ pub(crate) fn turns_left_before_next(policy: &Policy, turn: u32) -> TurnsLeft {
 /// before the owner it fails if that class may not flow to the owner or has
 /// turns left. The trial changes nothing."
 ///
-/// No class is met twice, so one move of each pointer is all there is to
+/// W-201: "The trial walk follows." It passes on from each class before the
+/// owner, so from each it goes to the child that the pointer names once it is
+/// moved. No class is met twice, so one move of each pointer is all there is to
 /// remember of "the marks as they would move".
-pub(crate) fn lookahead(policy: &Policy, state: &State, by: TurnsLeft) -> Lookahead {
+pub(crate) fn lookahead(policy: &Policy, state: &State, by: TurnsLeft, planted: Planted) -> Trial {
     let mut class = policy.least();
+    let mut passed_on = Vec::new();
     while class != state.owner {
         if !policy.flows(class, state.owner) {
-            return Lookahead::MeetsClassThatMayNotFlow;
+            let end = Lookahead::MeetsClassThatMayNotFlow;
+            return Trial { end, passed_on };
         }
         let left = match by {
             TurnsLeft::OfThisEpoch => state.classes[class].left,
             TurnsLeft::AtTheCaps => policy.caps[class],
         };
         if left > 0 {
-            return Lookahead::MeetsClassWithTurnsLeft;
+            let end = Lookahead::MeetsClassWithTurnsLeft;
+            return Trial { end, passed_on };
         }
-        class = match named_cover(policy, class, moved_pointer(policy, state, class)) {
+        let pointer = match planted {
+            // Not a rule: a leak that tests plant.
+            Planted::TrialByUnmovedMarks => state.classes[class].pointer,
+            _ => moved_pointer(policy, state, class),
+        };
+        passed_on.push(class);
+        class = match named_cover(policy, class, pointer) {
             Some(cover) => cover,
-            // Not met: the owner lies above this class.
-            None => return Lookahead::MeetsClassThatMayNotFlow,
+            // Not met by the rules: the owner lies above this class, so it has a
+            // cover, and a moved pointer names one. An unmoved one may be 0.
+            None => {
+                let end = Lookahead::MeetsClassThatMayNotFlow;
+                return Trial { end, passed_on };
+            }
         };
     }
-    Lookahead::ReachesOwner
+    let end = Lookahead::ReachesOwner;
+    Trial { end, passed_on }
 }
 
 /// "The owner may activate at offsets below turn length less dead time; if the

@@ -635,8 +635,8 @@ fn flipped_bit(random: &mut Random) -> Vec<u8> {
 // Traces.
 
 /// A trace for a policy: mostly some hundreds of numbers, at times thousands, and
-/// at times as many as it takes to pass an epoch's end and for every mark to go
-/// back to 1, where that is not too long.
+/// at times as many as it takes to pass an epoch's end and for a mark that moves
+/// in every turn to go back to 1, where that is not too long.
 fn trace_numbers(random: &mut Random, policy: &Policy) -> Vec<u32> {
     let turns = usize::from(policy.epoch).max(MOST_CLASSES);
     let wait = turns * usize::from(policy.timing.turn_length);

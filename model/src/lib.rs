@@ -1,4 +1,5 @@
-//! A model of the lattice priority controller, cycle by cycle.
+//! A model of the lattice priority controller, cycle by cycle: document 01, with
+//! the requests of document 02 that have landed (`docs/changes/README.md`).
 //!
 //! Every rule stands in the module named after its place in document 01:
 //!
@@ -21,7 +22,8 @@
 //! [`altered`] holds the faults by which its comparison is tested, and [`met`]
 //! counts what it meets.
 //!
-//! The text in quotation marks above a rule is document 01's own.
+//! The text in quotation marks above a rule is document 01's own, or that of
+//! document 02's request which is named before it.
 
 #![forbid(unsafe_code)]
 

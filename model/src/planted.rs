@@ -4,7 +4,8 @@
 /// Which wrong rule is in place.
 #[derive(Clone, Copy, Debug, Default, PartialEq, Eq)]
 pub enum Planted {
-    /// None: the rules of document 01. Every tick, run and program uses this.
+    /// None: the rules of document 01 with W-201. Every tick, run and program
+    /// uses this.
     #[default]
     Nothing,
     /// The dead time is always dropped.
@@ -41,10 +42,16 @@ pub enum Planted {
     RunAnswersForItsLastWord,
     /// A run refused with 15 makes its calls.
     RefusedRunMakesItsCalls,
+    /// The trial walk goes to the children that the marks name as they are, not
+    /// as they would move: it takes the way of the turn's own walk once more.
+    TrialByUnmovedMarks,
+    /// The mark of a class that takes the turn moves if a request of another
+    /// class waits.
+    MarkMovedIfOthersWait,
 }
 
 /// Every wrong rule.
-pub const LEAKS: [Planted; 13] = [
+pub const LEAKS: [Planted; 15] = [
     Planted::AlwaysElided,
     Planted::Document000Elision,
     Planted::EpochEndForgotten,
@@ -58,4 +65,6 @@ pub const LEAKS: [Planted; 13] = [
     Planted::MarkCarried,
     Planted::RunAnswersForItsLastWord,
     Planted::RefusedRunMakesItsCalls,
+    Planted::TrialByUnmovedMarks,
+    Planted::MarkMovedIfOthersWait,
 ];

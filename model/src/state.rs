@@ -77,7 +77,8 @@ pub struct ClassState {
     /// Turns left in this epoch.
     pub left: u8,
     /// The round-robin pointer (document 01: mark): the number of the cover
-    /// that it names, counted from 1, or 0 before the class was ever reached.
+    /// that the class last passed a turn on to, counted from 1, or 0 before it
+    /// ever passed one on.
     pub pointer: usize,
 }
 

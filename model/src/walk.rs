@@ -4,8 +4,8 @@ use crate::planted::Planted;
 use crate::policy::Policy;
 use crate::state::State;
 
-/// "The walk picks the owner." It moves the pointers of the classes it reaches
-/// and takes one of the owner's turns left.
+/// "The walk picks the owner." It moves the pointers of the classes it passes on
+/// from and takes one of the owner's turns left.
 pub(crate) fn walk(policy: &Policy, state: &mut State, planted: Planted) -> usize {
     // "It tries the least class first."
     let owner = try_class(policy, state, policy.least(), planted);
@@ -18,19 +18,20 @@ pub(crate) fn walk(policy: &Policy, state: &mut State, planted: Planted) -> usiz
 /// Document 01: a class is tried. Each try is strictly above the one before, so
 /// there are at most as many as there are classes.
 fn try_class(policy: &Policy, state: &mut State, class: usize, planted: Planted) -> usize {
-    // "A class that is reached moves its mark on by 1": the class that takes
-    // the turn is reached as well.
-    state.classes[class].pointer = moved_pointer(policy, state, class);
     // Not a rule: a leak that tests plant.
     if planted == Planted::HigherAskedFirst {
-        let asked = named_cover(policy, class, state.classes[class].pointer);
+        let asked = named_cover(policy, class, moved_pointer(policy, state, class));
         if asked.is_some_and(|higher| waits_with_turns_left(state, higher)) {
             return ascend(policy, state, class, planted);
         }
     }
     // "The class takes the turn if it has a request waiting and turns left, or
-    // if nothing is above it."
+    // if nothing is above it." Its mark stays as it is (W-201).
     if waits_with_turns_left(state, class) || policy.covers_of(class).is_empty() {
+        // Not a rule: a leak that tests plant.
+        if planted == Planted::MarkMovedIfOthersWait && another_waits(state, class) {
+            state.classes[class].pointer = moved_pointer(policy, state, class);
+        }
         class
     } else {
         ascend(policy, state, class, planted)
@@ -40,12 +41,17 @@ fn try_class(policy: &Policy, state: &mut State, class: usize, planted: Planted)
 /// "If not, the turn ascends to the child that its mark names, and that child
 /// is tried in the same way."
 fn ascend(policy: &Policy, state: &mut State, class: usize, planted: Planted) -> usize {
+    // W-201: "From now on a mark moves only when the walk passes on from the
+    // class: it moves first and then names the child."
+    state.classes[class].pointer = moved_pointer(policy, state, class);
     match named_cover(policy, class, state.classes[class].pointer) {
         Some(cover) => {
             let before = state.classes[cover].pointer;
             let owner = try_class(policy, state, cover, planted);
-            // Not a rule: a leak that tests plant.
-            let back_to_1 = before > 0 && state.classes[cover].pointer == 1;
+            // Not a rule: a leak that tests plant. A mark that stays at 1, since
+            // the cover takes the turn, does not go back to it.
+            let moved = owner != cover;
+            let back_to_1 = moved && before > 0 && state.classes[cover].pointer == 1;
             if planted == Planted::MarkCarried && back_to_1 {
                 state.classes[class].pointer = moved_pointer(policy, state, class);
             }
@@ -81,4 +87,10 @@ pub(crate) fn moved_pointer(policy: &Policy, state: &State, class: usize) -> usi
 pub(crate) fn named_cover(policy: &Policy, class: usize, pointer: usize) -> Option<usize> {
     let place = pointer.checked_sub(1)?;
     policy.covers_of(class).get(place).copied()
+}
+
+/// For [`Planted::MarkMovedIfOthersWait`] only.
+fn another_waits(state: &State, class: usize) -> bool {
+    let mut others = (0..state.classes.len()).filter(|&other| other != class);
+    others.any(|other| !state.classes[other].queue.is_empty())
 }

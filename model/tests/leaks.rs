@@ -128,6 +128,16 @@ fn finds_a_refused_run_that_makes_its_calls() {
     finds(Planted::RefusedRunMakesItsCalls);
 }
 
+#[test]
+fn finds_a_trial_walk_that_goes_by_the_unmoved_marks() {
+    finds(Planted::TrialByUnmovedMarks);
+}
+
+#[test]
+fn finds_a_mark_that_moves_on_a_taken_turn_if_others_wait() {
+    finds(Planted::MarkMovedIfOthersWait);
+}
+
 /// Each change in what is compared, and the one comparison that can tell it.
 const ALTERED: [(Altered, Option<Check>); 19] = [
     (Altered::Nothing, None),

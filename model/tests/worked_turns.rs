@@ -1,5 +1,5 @@
 //! The worked turns (a) to (h) of document 01, and the examples of document
-//! 000's sections 3.2 and 5.1.
+//! 000's sections 3.2 and 5.1. Marks move by W-201, of which `marks.rs` has more.
 
 mod common;
 
@@ -44,14 +44,14 @@ fn c_after_a_turn_of_1_the_walk_goes_to_2_so_1_keeps_its_dead_time() {
 
 #[test]
 fn c_with_a_cap_that_is_used_up_within_the_epoch() {
-    // E = 4: class 0 takes one turn; the rest alternates between 2 and 1, since
-    // class 0 moved its pointer to 1 when it took its own turn.
+    // E = 4: class 0 takes one turn and its pointer stays (W-201); the rest
+    // alternates between 1 and 2.
     let policy = policy(&FORK, 4, &[0, 1, 2], TIMING);
     assert_eq!(policy.caps, [1, 4, 4]);
     let log = run_fresh(&policy, &always_waiting(&policy, &[0, 1, 2], 4));
     assert_eq!(
         owners(&log),
-        [(0, DROPPED), (2, KEPT), (1, KEPT), (2, KEPT)]
+        [(0, DROPPED), (1, KEPT), (2, KEPT), (1, KEPT)]
     );
 }
 
@@ -177,19 +177,4 @@ fn section_5_1_a_pointer_counts_through_all_covers() {
     let log = run_fresh(&policy, &always_waiting(&policy, &[1, 2, 3], 7));
     let picked: Vec<u32> = owners(&log).into_iter().map(|(owner, _)| owner).collect();
     assert_eq!(picked, [1, 2, 3, 1, 2, 3, 1]);
-}
-
-/// A class that takes the turn is reached too, so its pointer moves on.
-#[test]
-fn the_pointer_of_an_owner_moves_as_well() {
-    let policy = policy(&FORK, 64, &[0; 3], TIMING);
-    // Class 0 waits at every second turn only: the same cover gets the others.
-    let mut list = Vec::new();
-    for _ in 0..3 {
-        list.push(read_word(0, 0));
-        list.extend([0; 8]);
-    }
-    let log = run_fresh(&policy, &list);
-    let picked: Vec<u32> = owners(&log).into_iter().map(|(owner, _)| owner).collect();
-    assert_eq!(picked, [0, 2, 0, 2, 0, 2]);
 }

@@ -57,9 +57,9 @@ class Examples(HistoryCase):
     def test_turns(self):
         for name, owners, turn in (
             ("chain-of-three", "0+ 1+ 1 0+ 1+ 2 1 1 2 1", 4),
-            ("diamond", "0+ 2 1 3+ 3 0+ 1 3+ 3", 5),
-            ("two-tenants", "0+ 2 1 0+ 1 2 1", 6),
-            ("two-tenants-busy", "0+ 2 1 0+ 1 2 1", 6),
+            ("diamond", "0+ 1 2 3+ 3 0+ 1 3+ 3", 5),
+            ("two-tenants", "0+ 1 2 0+ 1 2 1", 6),
+            ("two-tenants-busy", "0+ 1 2 0+ 1 2 1", 6),
             ("single-class", "0+ 0+ 0+ 0+", 12),
         ):
             with self.subTest(name):

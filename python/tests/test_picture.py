@@ -127,7 +127,7 @@ class Counted(PictureCase):
                 self.assertIn("%s: cycles 0 to %d" % (name, last), picture.texts)
 
     def test_by_hand(self):
-        """The busy tenants: seven turns, five with their dead time kept; 6 + 8 + 2 offers before cycle 0 and 8 + 1 before cycle 14, the last refused."""
+        """The busy tenants: seven turns, five with their dead time kept; 6 + 8 + 2 offers before cycle 0 and 8 + 1 before cycle 26, the last refused."""
         picture = self.picture(EXAMPLES / "two-tenants-busy")
         self.assertEqual((len(picture.bars("turn")), len(picture.bars("dead"))), (7, 5))
         self.assertEqual((len(picture.marks("offer")), len(picture.words("offer")), len(picture.marks("refusal"))), (4, 24, 1))

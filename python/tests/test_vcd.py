@@ -151,13 +151,13 @@ class Compared(VcdCase):
             self.check(ran, dump)
 
     def test_by_hand(self):
-        """The busy tenants in cycle 7: the turn is blue's, its column command goes out, and the base's third read is answered."""
+        """The busy tenants in cycle 7: the turn is red's, its column command goes out, and the base's third read is answered."""
         values = {path.removeprefix("vigambul."): value for path, value in self.dump(EXAMPLES / "two-tenants-busy").cycles[7].items()}
-        self.assertEqual((values["turn"], values["epoch"], text_of(values["owner.name"])), (1, 0, "blue"))
-        self.assertEqual((values["command.activate"], values["command.column"], text_of(values["command.name"]), values["command.bank"]), (0, 1, "blue", 5))
+        self.assertEqual((values["turn"], values["epoch"], text_of(values["owner.name"])), (1, 0, "red"))
+        self.assertEqual((values["command.activate"], values["command.column"], text_of(values["command.name"]), values["command.bank"]), (0, 1, "red", 0))
         self.assertEqual((values["answer.valid"], text_of(values["answer.name"]), values["answer.tag"]), (1, "base", 3))
-        self.assertEqual((values["queue.base"], values["queue.red"], values["queue.blue"]), (3, 8, 1))
-        self.assertEqual((values["turns_left.base"], values["turns_left.red"], values["turns_left.blue"]), (0, 3, 2))
+        self.assertEqual((values["queue.base"], values["queue.red"], values["queue.blue"]), (3, 7, 2))
+        self.assertEqual((values["turns_left.base"], values["turns_left.red"], values["turns_left.blue"]), (0, 2, 3))
 
     def test_no_ticks(self):
         """Only the values before the first cycle: what waits is shown."""

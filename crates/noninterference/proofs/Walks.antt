@@ -14,7 +14,7 @@ use Rattle.policy.specs.Policy.{flows, inRange}
 use Rattle.policy.specs.declared.Policy.{Policy}
 use Rattle.basics.proofs.Truth.{either, false-unless, not-both, and-left, and-fails-left}
 use Rattle.basics.proofs.Stores.{stored-in-both}
-use Rattle.rules.specs.Traversal.{firstClass, Candidates, candidates, moved, movedPointer, reachedAt, named, takesBy, takes, Reached, endsAt, tryClass, charge}
+use Rattle.rules.specs.Traversal.{firstClass, Candidates, candidates, moved, movedPointer, passedAt, named, takesBy, takes, Reached, endsAt, tryClass, charge}
 use Rattle.rules.specs.Lookahead.{Ahead, lookingAhead, goesOn, reaches, aheadOf, nextLeft, elides}
 use Rattle.rules.specs.Step.{leftAtStart, ownedBy, startTurn}
 use Rattle.state.specs.declared.Turns.{Turns}
@@ -43,12 +43,12 @@ module _ (p : Policy) (given : inRange p ≡ true) (low : ℕ → Bool) (closed 
     same : EntriesAgree low (r .pointers) pointers
 
   high-walk : (lengths left : List ℕ) (bound : ℕ) (pointers : List ℕ) (c : ℕ) → low c ≡ false → Unseen pointers (tryClass bound (candidates (p .covers) lengths left) pointers c)
-  unfolding endsAt reachedAt
+  unfolding endsAt passedAt
   high-walk lengths left =
       let all = candidates (p .covers) lengths left in
-      let unseen : (pointers : List ℕ) (c : ℕ) → low c ≡ false → EntriesAgree low (reachedAt (p .covers) pointers c) pointers = λ pointers c high. set-unseen low pointers c (movedPointer (p .covers) pointers c) high in
+      let unseen : (pointers : List ℕ) (c : ℕ) → low c ≡ false → EntriesAgree low (passedAt (p .covers) pointers c) pointers = λ pointers c high. set-unseen low pointers c (movedPointer (p .covers) pointers c) high in
       traversed all (λ pointers c r. low c ≡ false → Unseen pointers r)
-      (λ pointers c high. record { owner = high; same = unseen pointers c high })
+      (λ pointers c high. record { owner = high; same = λ d i. refl })
       (λ bound pointers c t rest high.
       let next = named (p .covers) pointers c in
       let up = to-cover p given pointers c (passes-on all c t) in
@@ -89,25 +89,25 @@ module _ (p : Policy) (given : inRange p ≡ true) (low : ℕ → Bool) (closed 
       unfolding named
       same-next = ap (nth (getD (p .covers) c 0)) same-move
 
-      still : EntriesAgree low (reachedAt (p .covers) pointers-1 c) (reachedAt (p .covers) pointers-2 c)
-      unfolding reachedAt
+      still : EntriesAgree low (passedAt (p .covers) pointers-1 c) (passedAt (p .covers) pointers-2 c)
+      unfolding passedAt
       still = set-agree low pointers-1 pointers-2 c _ _ (subst (λ (n : ℕ). c < n) (sym long-1) l) (subst (λ (n : ℕ). c < n) (sym long-2) l) same-move h
 
-      ends : Walked (endsAt all-1 pointers-1 c) (endsAt all-2 pointers-2 c)
+      ends : Walked (endsAt pointers-1 c) (endsAt pointers-2 c)
       unfolding endsAt
-      ends = record { owners = inl (refl, i); pointers = still }
+      ends = record { owners = inl (refl, i); pointers = h }
 
     same-walk : (bound : ℕ) (pointers-1 : List ℕ) (c : ℕ) (pointers-2 : List ℕ) → c < 16 → length pointers-1 ≡ 16 → length pointers-2 ≡ 16 → EntriesAgree low pointers-1 pointers-2 → low c ≡ true → Walked (tryClass bound all-1 pointers-1 c) (tryClass bound all-2 pointers-2 c)
-    unfolding tryClass reachedAt
+    unfolding tryClass passedAt
     same-walk =
         traverse all-1 (λ bound pointers-1 c r. (pointers-2 : List ℕ) → c < 16 → length pointers-1 ≡ 16 → length pointers-2 ≡ 16 → EntriesAgree low pointers-1 pointers-2 → low c ≡ true → Walked r (tryClass bound all-2 pointers-2 c))
         (λ pointers-1 c pointers-2 l long-1 long-2 h i. ends pointers-1 pointers-2 c l long-1 long-2 h i)
         (λ bound pointers-1 c t pointers-2 l long-1 long-2 h i.
-        subst (Walked (endsAt all-1 pointers-1 c)) (sym (try-takes all-2 (suc bound) pointers-2 c (sym (same-takes c i) ∙ t))) (ends pointers-1 pointers-2 c l long-1 long-2 h i))
+        subst (Walked (endsAt pointers-1 c)) (sym (try-takes all-2 (suc bound) pointers-2 c (sym (same-takes c i) ∙ t))) (ends pointers-1 pointers-2 c l long-1 long-2 h i))
         (λ bound pointers-1 c t rest pointers-2 l long-1 long-2 h i.
         let next = named (p .covers) pointers-1 c in
-        let after-1 = reachedAt (p .covers) pointers-1 c in
-        let after-2 = reachedAt (p .covers) pointers-2 c in
+        let after-1 = passedAt (p .covers) pointers-1 c in
+        let after-2 = passedAt (p .covers) pointers-2 c in
         let agree = still pointers-1 pointers-2 c l long-1 long-2 h i in
         let second = try-passes all-2 bound pointers-2 c (sym (same-takes c i) ∙ t) ∙ ap (tryClass bound all-2 after-2) (sym (same-next pointers-1 pointers-2 c l long-1 long-2 h i)) in
         subst (Walked (onward all-1 bound pointers-1 c)) (sym second)

@@ -38,3 +38,5 @@ pub mod PublicCalls
 pub mod Laws
 -- and as `specs/RunLaws.antt` states them
 pub mod RunLaws
+-- and as `specs/RoundRobin.antt` states it
+pub mod RoundRobin

@@ -18,7 +18,7 @@ use Rattle.policy.specs.Policy.{isClass, flows, above, coversOf, inRange}
 use Rattle.policy.specs.declared.Policy.{Policy}
 use Rattle.basics.proofs.Truth.{either, not-both, and-left, and-right, and-fails-right, or-fails, on-true, on-false}
 use Rattle.policy.proofs.Laws.{policy-laws}
-use Rattle.rules.specs.Traversal.{Candidates, candidates, moved, movedPointer, reachedAt, named, takesBy, takes, Reached, tryClass}
+use Rattle.rules.specs.Traversal.{Candidates, candidates, moved, movedPointer, passedAt, named, takesBy, takes, Reached, tryClass}
 use Rattle.rules.specs.Climb.{Climbs}
 use Rattle.rules.specs.Lookahead.{Ahead, lookingAhead, goesOn, reaches, nextLeft, elides}
 use Rattle.rules.specs.Step.{leftAtStart, ownedBy, startTurn}
@@ -99,7 +99,7 @@ module _ (p : Policy) (given : inRange p ≡ true) where
 
     -- the traversal, where its pointers at a class and above are those of the lookahead, follows it to the owner
     follows : (bound c : ℕ) (moving : List ℕ) → isClass p c ≡ true → ((j : ℕ) → above p j ≤ above p c → getD moving j 0 ≡ getD pointers j 0) → reaches bound ahead owner c ≡ true → flows p owner (tryClass bound all moving c .owner) ≡ true
-    unfolding reaches goesOn flows coversOf named movedPointer reachedAt
+    unfolding reaches goesOn flows coversOf named movedPointer passedAt
     follows =
         look ahead owner (λ bound c. (moving : List ℕ) → isClass p c ≡ true → ((j : ℕ) → above p j ≤ above p c → getD moving j 0 ≡ getD pointers j 0) → reaches bound ahead owner c ≡ true → flows p owner (tryClass bound all moving c .owner) ≡ true)
         (λ c moving l same r.
@@ -113,7 +113,7 @@ module _ (p : Policy) (given : inRange p ≡ true) where
         let spent = eqb-true (getD left c 0) 0 (and-right (flowsIn (p .rows) c owner) (eqb (getD left c 0) 0) t) in
         let falls = policy-laws p given .higher .falls-to-cover c then (on-covers ahead owner (climbs p given) c e t) in
         let there : named (p .covers) moving c ≡ then = ap (λ (k : ℕ). nth (getD (p .covers) c 0) (moved (getD (p .covers) c 0) k)) (same c (le-refl (above p c))) in
-        let later = reachedAt (p .covers) moving c in
+        let later = passedAt (p .covers) moving c in
         let apart : (j : ℕ) → above p j ≤ above p then → (j ≡ c) → ⊥ = λ j h i. lt-irrefl (above p c) (lt-of-le-of-lt (subst (λ (x : ℕ). above p x ≤ above p then) i h) falls) in
         subst (λ (x : Reached). flows p owner (x .owner) ≡ true)
         (sym (try-passes all bound moving c (spent-passes all c spent full) ∙ ap (tryClass bound all later) there))

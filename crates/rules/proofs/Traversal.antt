@@ -22,8 +22,8 @@ use Rattle.masks.proofs.Masks.{same-members, member-zero, member-small}
 use Rattle.masks.proofs.Numbered as numbered
 use Rattle.order.proofs.Orders.{apart-strictly, strictly-flows}
 use Rattle.policy.proofs.Laws.{policy-laws}
-use Rattle.rules.specs.Traversal.{firstClass, Candidates, candidates, moved, movedPointer, reachedAt, named, takesBy, takes, Reached, endsAt, tryClass}
-use Rattle.rules.specs.Climb.{Climbs, Names}
+use Rattle.rules.specs.Traversal.{firstClass, Candidates, candidates, moved, movedPointer, passedAt, named, takesBy, takes, Reached, endsAt, tryClass}
+use Rattle.rules.specs.Climb.{Climbs}
 use Rattle.rules.specs.Laws.{Ascends}
 
 -- ---- where a moved pointer leads
@@ -38,6 +38,11 @@ some-member m small full =
     omega (arith, count-yes (member m) (w .0) (w .2), count-mono (member m) (w .0 + 1) 16 (omega (arith, w .1))))
     (λ t. absurd (full (same-members m 0 small (lit< tt) (λ j l. none-at (member m) 16 t j l ∙ sym (member-zero j)))))
     (either (some 16 (member m)))
+
+-- a pointer is the number of one of the covers
+pub record Names (covers pointer : ℕ) : Type 0 where
+  pub some : 1 ≤ pointer
+  pub within : pointer ≤ size covers
 
 -- the moved pointer of a class with a cover is one of the covers' numbers
 pub moved-names : (m pointer : ℕ) → m < 2 ^ 16 → ((m ≡ 0) → ⊥) → Names m (moved m pointer)
@@ -64,26 +69,26 @@ passes-on all c e none =
 -- ---- the induction
 
 module _ (all : Candidates) where
-  pub try-takes : (bound : ℕ) (pointers : List ℕ) (c : ℕ) → takes all c ≡ true → tryClass bound all pointers c ≡ endsAt all pointers c
+  pub try-takes : (bound : ℕ) (pointers : List ℕ) (c : ℕ) → takes all c ≡ true → tryClass bound all pointers c ≡ endsAt pointers c
   unfolding tryClass
   try-takes zero pointers c e = refl
   try-takes (suc bound) pointers c e = on-true (takes all c) _ _ e
 
-  pub try-passes : (bound : ℕ) (pointers : List ℕ) (c : ℕ) → takes all c ≡ false → tryClass (suc bound) all pointers c ≡ tryClass bound all (reachedAt (all .covers) pointers c) (named (all .covers) pointers c)
+  pub try-passes : (bound : ℕ) (pointers : List ℕ) (c : ℕ) → takes all c ≡ false → tryClass (suc bound) all pointers c ≡ tryClass bound all (passedAt (all .covers) pointers c) (named (all .covers) pointers c)
   unfolding tryClass
   try-passes bound pointers c e = on-false (takes all c) _ _ e
 
   -- where the traversal ends from the class that is named on
   abbrev pub onward : ℕ → List ℕ → ℕ → Reached
-  onward bound pointers c = tryClass bound all (reachedAt (all .covers) pointers c) (named (all .covers) pointers c)
+  onward bound pointers c = tryClass bound all (passedAt (all .covers) pointers c) (named (all .covers) pointers c)
 
   -- if it holds of that, it holds of the class
   abbrev pub Next : (ℕ → List ℕ → ℕ → Reached → Type 0) → ℕ → List ℕ → ℕ → Type 0
-  Next P bound pointers c = P bound (reachedAt (all .covers) pointers c) (named (all .covers) pointers c) (onward bound pointers c) → P (suc bound) pointers c (onward bound pointers c)
+  Next P bound pointers c = P bound (passedAt (all .covers) pointers c) (named (all .covers) pointers c) (onward bound pointers c) → P (suc bound) pointers c (onward bound pointers c)
 
   -- what holds of where the traversal ends: where no ascent is left, where a class takes the turn, and, if it holds from the class that is named on, where one passes
   -- it on
-  pub traverse : (P : ℕ → List ℕ → ℕ → Reached → Type 0) → ((pointers : List ℕ) (c : ℕ) → P zero pointers c (endsAt all pointers c)) → ((bound : ℕ) (pointers : List ℕ) (c : ℕ) → takes all c ≡ true → P (suc bound) pointers c (endsAt all pointers c)) → ((bound : ℕ) (pointers : List ℕ) (c : ℕ) → takes all c ≡ false → Next P bound pointers c) → (bound : ℕ) (pointers : List ℕ) (c : ℕ) → P bound pointers c (tryClass bound all pointers c)
+  pub traverse : (P : ℕ → List ℕ → ℕ → Reached → Type 0) → ((pointers : List ℕ) (c : ℕ) → P zero pointers c (endsAt pointers c)) → ((bound : ℕ) (pointers : List ℕ) (c : ℕ) → takes all c ≡ true → P (suc bound) pointers c (endsAt pointers c)) → ((bound : ℕ) (pointers : List ℕ) (c : ℕ) → takes all c ≡ false → Next P bound pointers c) → (bound : ℕ) (pointers : List ℕ) (c : ℕ) → P bound pointers c (tryClass bound all pointers c)
   unfolding tryClass
   traverse P none takes-it passes zero pointers c = none pointers c
   traverse P none takes-it passes (suc bound) pointers c =
@@ -91,11 +96,11 @@ module _ (all : Candidates) where
       (λ t. subst (P (suc bound) pointers c) (sym (try-takes (suc bound) pointers c t)) (takes-it bound pointers c t))
       (λ t.
       subst (P (suc bound) pointers c) (sym (try-passes bound pointers c t))
-      (passes bound pointers c t (traverse P none takes-it passes bound (reachedAt (all .covers) pointers c) (named (all .covers) pointers c))))
+      (passes bound pointers c t (traverse P none takes-it passes bound (passedAt (all .covers) pointers c) (named (all .covers) pointers c))))
       (either (takes all c))
 
   -- the same where the bound does not count
-  pub traversed : (P : List ℕ → ℕ → Reached → Type 0) → ((pointers : List ℕ) (c : ℕ) → P pointers c (endsAt all pointers c)) → ((bound : ℕ) (pointers : List ℕ) (c : ℕ) → takes all c ≡ false → Next (λ bound. P) bound pointers c) → (bound : ℕ) (pointers : List ℕ) (c : ℕ) → P pointers c (tryClass bound all pointers c)
+  pub traversed : (P : List ℕ → ℕ → Reached → Type 0) → ((pointers : List ℕ) (c : ℕ) → P pointers c (endsAt pointers c)) → ((bound : ℕ) (pointers : List ℕ) (c : ℕ) → takes all c ≡ false → Next (λ bound. P) bound pointers c) → (bound : ℕ) (pointers : List ℕ) (c : ℕ) → P pointers c (tryClass bound all pointers c)
   traversed P ends passes = traverse (λ bound. P) ends (λ bound pointers c t. ends pointers c) passes
 
   -- ---- it ends before its bound

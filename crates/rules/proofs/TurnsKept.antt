@@ -15,7 +15,7 @@ use Rattle.policy.specs.declared.Policy.{Policy}
 use Rattle.basics.proofs.Truth.{either, on-both, on-true, on-false}
 use Rattle.basics.proofs.Stores.{stored-at}
 use Rattle.policy.proofs.Laws.{policy-laws}
-use Rattle.rules.specs.Traversal.{firstClass, candidates, moved, movedPointer, reachedAt, endsAt, tryClass, charge}
+use Rattle.rules.specs.Traversal.{firstClass, candidates, moved, movedPointer, passedAt, endsAt, tryClass, charge}
 use Rattle.rules.specs.Step.{turnStarts, turnNumber, leftAtStart, TurnStart, ownedBy, startTurn, turnsAt}
 use Rattle.state.specs.declared.Turns.{Turns}
 use Rattle.rules.proofs.Range.{Within, TurnsRange}
@@ -43,13 +43,13 @@ module _ (p : Policy) (given : inRange p ≡ true) where
       (either (eqb (getD (p .covers) c 0) 0))
 
   pub pointers-within : (lengths left : List ℕ) (bound : ℕ) (pointers : List ℕ) (c : ℕ) → c < 16 → Within (coverCount p) pointers → Within (coverCount p) (tryClass bound (candidates (p .covers) lengths left) pointers c .pointers)
-  unfolding endsAt reachedAt
+  unfolding endsAt passedAt
   pointers-within lengths left =
       let all = candidates (p .covers) lengths left in
-      let moving : (pointers : List ℕ) (c : ℕ) → c < 16 → Within (coverCount p) pointers → Within (coverCount p) (reachedAt (p .covers) pointers c) =
+      let moving : (pointers : List ℕ) (c : ℕ) → c < 16 → Within (coverCount p) pointers → Within (coverCount p) (passedAt (p .covers) pointers c) =
       λ pointers c l w. set-within (coverCount p) pointers c (movedPointer (p .covers) pointers c) l (moved-within pointers c) w
       in
-      traversed all (λ pointers c r. c < 16 → Within (coverCount p) pointers → Within (coverCount p) (r .pointers)) moving
+      traversed all (λ pointers c r. c < 16 → Within (coverCount p) pointers → Within (coverCount p) (r .pointers)) (λ pointers c l w. w)
       (λ rest pointers c t next l w. next (passes-small all (p .rows) (climbs p given) pointers c t) (moving pointers c l w))
 
   -- ---- turns left

@@ -2,9 +2,9 @@
 use mathlib.Core.Path.{_≡_}
 use mathlib.Core.Bool.{true}
 use mathlib.Core.List.{List}
-use Prim.Native.Nat.{ℕ, _^_, _≤_, _<_}
+use Prim.Native.Nat.{ℕ, _^_, _<_}
 use lib.ListN.{getD}
-use Rattle.masks.specs.Mask.{member, size}
+use Rattle.masks.specs.Mask.{member}
 use Rattle.order.specs.Order.{flowsIn, aboveIn}
 
 pub record Climbs (rows covers : List ℕ) : Type 0 where
@@ -14,8 +14,3 @@ pub record Climbs (rows covers : List ℕ) : Type 0 where
   pub falls : (c j : ℕ) → member (getD covers c 0) j ≡ true → aboveIn rows j < aboveIn rows c
   -- a class that may flow to another has a cover
   pub upward : (c owner : ℕ) → flowsIn rows c owner ≡ true → ((c ≡ owner) → ⊥) → getD covers c 0 ≡ 0 → ⊥
-
--- a pointer is the number of one of the covers
-pub record Names (covers pointer : ℕ) : Type 0 where
-  pub some : 1 ≤ pointer
-  pub within : pointer ≤ size covers

@@ -28,3 +28,5 @@ pub mod History
 pub mod Laws
 -- what holds of every list of calls and of runs: cut in two, and however the calls are made
 pub mod RunLaws
+-- W-201: of the turns that a class passes on, each of its children is named in turn
+pub mod RoundRobin

@@ -22,7 +22,8 @@ lookingAhead rows covers left pointers = record { rows = rows; covers = covers; 
 unfoldable pub goesOn : Ahead → ℕ → ℕ → Bool
 goesOn ahead owner c = flowsIn (ahead .rows) c owner && eqb (getD (ahead .left) c 0) 0
 
--- from a class on, it "reaches the owner". It goes by "the marks as they would move", and changes nothing. The first argument bounds how often it ascends, as in the
+-- from a class on, it "reaches the owner". It goes by "the marks as they would move" (W-201: "The trial walk follows.": it passes on from each class before the owner, so each mark moves once more and then
+-- names the child), and changes nothing. The first argument bounds how often it ascends, as in the
 -- traversal.
 unfoldable pub reaches : ℕ → Ahead → ℕ → ℕ → Bool
 reaches zero ahead owner c = eqb c owner

@@ -21,24 +21,24 @@ pub record Candidates : Type 0 where
 abbrev pub candidates : List ℕ → List ℕ → List ℕ → Candidates
 candidates covers lengths left = record { covers = covers; lengths = lengths; left = left }
 
--- "A class that is reached moves its mark on by 1, from the number of its children back to 1; marks start at 0, and a class without children has none."
+-- A mark moves "on by 1, from the number of its children back to 1; marks start at 0, and a class without children has none."
 unfoldable pub moved : ℕ → ℕ → ℕ
 moved covers pointer = cond (eqb covers 0) 0 (cond (ltb pointer (size covers)) (pointer + 1) 1)
 
 unfoldable pub movedPointer : List ℕ → List ℕ → ℕ → ℕ
 movedPointer covers pointers c = moved (getD covers c 0) (getD pointers c 0)
 
--- the pointers once a class is reached
-unfoldable pub reachedAt : List ℕ → List ℕ → ℕ → List ℕ
-reachedAt covers pointers c = set pointers c (movedPointer covers pointers c)
+-- W-201: "a mark moves only when the walk passes on from the class": the pointers once a class has passed the turn on
+unfoldable pub passedAt : List ℕ → List ℕ → ℕ → List ℕ
+passedAt covers pointers c = set pointers c (movedPointer covers pointers c)
 
--- "the child that its mark names", once the mark has moved
+-- the child of a class that has a number
+abbrev pub childAt : List ℕ → ℕ → ℕ → ℕ
+childAt covers c number = nth (getD covers c 0) number
+
+-- W-201: "it moves first and then names the child"
 unfoldable pub named : List ℕ → List ℕ → ℕ → ℕ
-named covers pointers c = nth (getD covers c 0) (movedPointer covers pointers c)
-
--- the cover that a class's pointer names as it stands
-abbrev pub namedNow : List ℕ → List ℕ → ℕ → ℕ
-namedNow covers pointers c = nth (getD covers c 0) (getD pointers c 0)
+named covers pointers c = childAt covers c (movedPointer covers pointers c)
 
 -- "The class takes the turn if it has a request waiting and turns left, or if nothing is above it": it then has no cover, and otherwise it has one.
 unfoldable pub takesBy : ℕ → ℕ → ℕ → Bool
@@ -52,18 +52,18 @@ pub record Reached : Type 0 where
   pub owner : ℕ
   pub pointers : List ℕ
 
--- where the class that is reached is the owner
-unfoldable pub endsAt : Candidates → List ℕ → ℕ → Reached
-endsAt all pointers c = record { owner = c; pointers = reachedAt (all .covers) pointers c }
+-- where the class that is tried is the owner: its pointer stays
+unfoldable pub endsAt : List ℕ → ℕ → Reached
+endsAt pointers c = record { owner = c; pointers = pointers }
 
--- a class is tried: it is reached, and takes the turn or passes it on. "If not, the turn ascends to the child that its mark names, and that child is tried in the
+-- a class is tried: it takes the turn or passes it on. "If not, the turn ascends to the child that its mark names, and that child is tried in the
 -- same way." The first argument bounds how often the turn ascends; there are never more ascents than classes strictly above.
 unfoldable pub tryClass : ℕ → Candidates → List ℕ → ℕ → Reached
-tryClass zero all pointers c = endsAt all pointers c
+tryClass zero all pointers c = endsAt pointers c
 tryClass (suc rest) all pointers c =
     elim (takes all c) [
-      | true ↦ endsAt all pointers c
-      | false ↦ tryClass rest all (reachedAt (all .covers) pointers c) (named (all .covers) pointers c)
+      | true ↦ endsAt pointers c
+      | false ↦ tryClass rest all (passedAt (all .covers) pointers c) (named (all .covers) pointers c)
     ]
 
 -- "The owner's turns left fall by 1, not below 0."

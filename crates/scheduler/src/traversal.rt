@@ -3,10 +3,10 @@
 ghost use mathlib.Core.Path.{_≡_};
 ghost use Prim.Native.Nat.{_<_};
 ghost use lib.ListN.{length, getD};
-ghost use Rattle.rules.specs.Traversal.{namedNow, candidates, tryClass};
-ghost use Rattle.rules.specs.Climb.{Climbs, Names};
+ghost use Rattle.rules.specs.Traversal.{candidates, passedAt, named, tryClass};
+ghost use Rattle.rules.specs.Climb.{Climbs};
 
-// A class is tried: its pointer moves, and it takes the turn or passes it on. The rows are those of the order: what the recursion falls by.
+// A class is tried: it takes the turn, and its pointer stays, or it passes the turn on. The rows are those of the order: what the recursion falls by.
 pub(crate) fn try_class(
     rows: &[u16; 16],
     covers: &[u16; 16],
@@ -19,14 +19,13 @@ pub(crate) fn try_class(
     ensures { λ r. ⌜ record { owner = r; pointers = now (pointers .exit) }
         ≡ tryClass 16 (candidates (now (covers .entry)) (now (lengths .entry)) (now (left .entry))) (now (pointers .entry)) class ⌝ }
 {
-    pointers[class] = decisions::moved(covers[class], pointers[class]);
     if decisions::takes(covers[class], lengths[class], left[class]) {
         return class;
     }
     ascend(rows, covers, lengths, left, pointers, class)
 }
 
-// The turn ascends to the cover that the class's pointer names.
+// The turn ascends: the class's pointer moves, and the cover that it then names is tried.
 fn ascend(
     rows: &[u16; 16],
     covers: &[u16; 16],
@@ -36,11 +35,13 @@ fn ascend(
     class: usize,
 ) -> usize
     requires { ⌜ Climbs (now rows) (now covers) × (class < 16) × (length (now pointers) ≡ 16)
-        × Names (getD (now covers) class 0) (getD (now pointers) class 0) ⌝ }
+        × (getD (now covers) class 0 ≡ 0 → ⊥) ⌝ }
     ensures { λ r. ⌜ record { owner = r; pointers = now (pointers .exit) }
-        ≡ tryClass 16 (candidates (now (covers .entry)) (now (lengths .entry)) (now (left .entry))) (now (pointers .entry))
-        (namedNow (now (covers .entry)) (now (pointers .entry)) class) ⌝ }
+        ≡ tryClass 16 (candidates (now (covers .entry)) (now (lengths .entry)) (now (left .entry)))
+        (passedAt (now (covers .entry)) (now (pointers .entry)) class) (named (now (covers .entry)) (now (pointers .entry)) class) ⌝ }
 {
-    let next = masks::nth(covers[class], pointers[class]);
+    let pointer = decisions::moved(covers[class], pointers[class]);
+    pointers[class] = pointer;
+    let next = masks::nth(covers[class], pointer);
     try_class(rows, covers, lengths, left, pointers, next)
 }

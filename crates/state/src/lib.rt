@@ -23,7 +23,7 @@ pub struct Turns {
     pub elided: bool,
     // The turns that each class has left in the epoch.
     pub left: [u32; 16],
-    // Each class's round-robin pointer: the number of the cover that it names, 0 before the class was reached. Document 01: its mark.
+    // Each class's round-robin pointer: the number of the cover that it names, 0 before the class has passed a turn on. Document 01: its mark.
     pub pointers: [usize; 16],
 }
 

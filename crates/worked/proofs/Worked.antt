@@ -27,7 +27,7 @@ use Rattle.requests.specs.Word.{classOf, kindOf, bankOf, tagOf, isOffer, reques
 use Rattle.queues.specs.Waiting.{headOf, lengthOf, place, waitingAt}
 use Rattle.flight.specs.Flight.{dueAt, activateAt, activateNext, activateKind, sentAt}
 use Rattle.rules.specs.Queue.{enqueue, dequeue, offerStatus, queuesAfter}
-use Rattle.rules.specs.Traversal.{firstClass, candidates, moved, movedPointer, reachedAt, named, takesBy, takes, endsAt, tryClass, charge}
+use Rattle.rules.specs.Traversal.{firstClass, candidates, moved, movedPointer, passedAt, named, takesBy, takes, endsAt, tryClass, charge}
 use Rattle.rules.specs.Lookahead.{goesOn, reaches, aheadOf, nextLeft, elides}
 use Rattle.rules.specs.Wire.{gapMet, gapsMetBy, gapsMet, offsetAllows, activated}
 use Rattle.rules.specs.Step.{turnStarts, turnNumber, leftAtStart, ownedBy, startTurn, turnsAt, turnWord, goesAt, going, canActivate, drive, answered}
@@ -36,7 +36,7 @@ use Rattle.state.specs.Range.{inRange as stateRange}
 use Rattle.rules.specs.Call.{offerOn, silent, afterTick, tickOn, tick}
 use Rattle.requests.specs.Trace.{callOf}
 use Rattle.rules.specs.Calls.{Answer, ticked, offered, answer, answerTo, logOf}
-use Rattle.worked.specs.Worked.{example, alone, pair, fork, chain, ticks, reads, logFrom, turnsIn, turnsFrom, printed, Case, table, WorkedTurns}
+use Rattle.worked.specs.Worked.{example, alone, pair, fork, spare, chain, ticks, reads, everySecond, logFrom, turnsIn, turnsFrom, printed, Case, table, WorkedTurns}
 use Rattle.state.specs.declared.State.{State}
 use Rattle.requests.specs.declared.Call.{Call}
 use Rattle.requests.specs.declared.Call.the-variants.{Tick, Offer, Malformed}
@@ -92,7 +92,7 @@ plain-right p s (w ∷ ws) e =
     ∙ ap (λ (x : Answer). x .status ∷ x .command ∷ x .response ∷ x .turn ∷ plain-log p (x .state) ws) (plainly p s (callOf w) e)
 
 log-computed : Policy → List ℕ → List ℕ
-unfolding policy-computed plain plain-log ticks reads callOf isOffer requestOf wordOf classOf kindOf bankOf tagOf columnNumber commandNumber classFits bankAndKindFit offerOn offerStatus queuesAfter enqueue dequeue headOf lengthOf place waitingAt freshState stateAtStart emptyQueues nothingInFlight zeros silent afterTick tickOn turnsAt turnStarts turnNumber turnWord goesAt going canActivate drive answered dueAt sentAt activateAt activateNext activateKind gapMet gapsMetBy gapsMet offsetAllows activated first count size nth moved movedPointer named takesBy takes reachedAt endsAt tryClass charge goesOn reaches nextLeft firstClass elides leftAtStart ownedBy startTurn least leastIn flowsIn leastAt every member
+unfolding policy-computed plain plain-log ticks reads callOf isOffer requestOf wordOf classOf kindOf bankOf tagOf columnNumber commandNumber classFits bankAndKindFit offerOn offerStatus queuesAfter enqueue dequeue headOf lengthOf place waitingAt freshState stateAtStart emptyQueues nothingInFlight zeros silent afterTick tickOn turnsAt turnStarts turnNumber turnWord goesAt going canActivate drive answered dueAt sentAt activateAt activateNext activateKind gapMet gapsMetBy gapsMet offsetAllows activated first count size nth moved movedPointer named takesBy takes passedAt endsAt tryClass charge goesOn reaches nextLeft firstClass elides leftAtStart ownedBy startTurn least leastIn flowsIn leastAt every member
 log-computed p ws = plain-log p (freshState p) ws
 
 -- every state reached from the fresh one of a policy in range is in range
@@ -120,6 +120,10 @@ fits-fork : inRange fork ≡ true
 unfolding fork range-computed
 fits-fork = refl
 
+fits-spare : inRange spare ≡ true
+unfolding spare range-computed
+fits-spare = refl
+
 fits-chain : inRange chain ≡ true
 unfolding chain range-computed
 fits-chain = refl
@@ -145,6 +149,12 @@ cases =
     (also refl
     (also (from-fresh (readFile (printed 0 2) .policy) fits-printed (0x80010007 ∷ 0 ∷ 0 ∷ 0 ∷ []))
     refl)))))))
+
+-- ---- W-201's customer
+
+customer : turnsFrom spare (everySecond 4) ≡ 257 ∷ 2 ∷ 257 ∷ 3 ∷ 257 ∷ 2 ∷ 257 ∷ 3 ∷ []
+unfolding spare turns-computed everySecond
+customer = turns-from spare fits-spare (everySecond 4)
 
 -- ---- (a)
 
@@ -188,4 +198,4 @@ e p given k lengths left pointers nobody =
     idle-ends p given lengths (leftAtStart p k left) nobody 16 pointers (firstClass p k) (le-of-lt (policy-laws p given .higher .few (firstClass p k)))
 
 pub worked-turns : WorkedTurns
-worked-turns = record { cases = cases; a = a; e = e }
+worked-turns = record { cases = cases; customer = customer; a = a; e = e }

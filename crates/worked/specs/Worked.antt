@@ -30,6 +30,10 @@ pair = example (3 ∷ 2 ∷ []) 3 (0 ∷ 2 ∷ []) 2
 unfoldable pub fork : Policy
 fork = example (7 ∷ 2 ∷ 4 ∷ []) 4 (0 ∷ 1 ∷ 1 ∷ []) 3
 
+-- the same with an epoch of 8 turns and no minimums, so that class 0 has turns left
+unfoldable pub spare : Policy
+spare = example (7 ∷ 2 ∷ 4 ∷ []) 8 (0 ∷ 0 ∷ 0 ∷ []) 3
+
 -- a chain of three
 unfoldable pub chain : Policy
 chain = example (7 ∷ 6 ∷ 4 ∷ []) 3 (0 ∷ 1 ∷ 1 ∷ []) 3
@@ -42,6 +46,11 @@ ticks n = replicate n 0
 
 unfoldable pub reads : ℕ → ℕ → List ℕ
 reads n c = replicate n (0x80000000 + 0x01000000 * c)
+
+-- W-201: "A customer's least class .. sends on every second turn": a read of class 0 and the ticks of two turns, so many times
+unfoldable pub everySecond : ℕ → List ℕ
+everySecond zero = []
+everySecond (suc n) = reads 1 0 ++ ticks 8 ++ everySecond n
 
 -- the log of a trace, from the fresh state
 unfoldable pub logFrom : Policy → List ℕ → List ℕ
@@ -97,6 +106,8 @@ table =
 pub record WorkedTurns : Type 0 where
   -- the definitions yield the table
   pub cases : map (λ (c : Case). c .yielded) table ≡ map (λ (c : Case). c .stated) table
+  -- W-201: the turns that the customer's least class passes up go to its two children in turn (by the rule before it, all to class 2)
+  pub customer : turnsFrom spare (everySecond 4) ≡ 257 ∷ 2 ∷ 257 ∷ 3 ∷ 257 ∷ 2 ∷ 257 ∷ 3 ∷ []
   -- (a) in every policy and at every turn
   pub a : (p : Policy) → inRange p ≡ true → p .classes ≡ 1 → (k : ℕ) (lengths left pointers : List ℕ)
       → (startTurn p k lengths left pointers .turns .owner ≡ 0) × (startTurn p k lengths left pointers .turns .elided ≡ true)

@@ -1,5 +1,5 @@
-//! The rules of document 01 written for speed: the measure of what a run could
-//! cost.
+//! The rules of document 01, with request W-201 of document 02, written for
+//! speed: the measure of what a run could cost.
 //!
 //! One struct holds policy and state in fixed arrays and is changed in place.
 //! Nothing is allocated after [`Controller::new`], and a tick that starts no
@@ -260,19 +260,16 @@ impl Controller {
         1 + self.owner as u32 + if elided { ELIDED } else { 0 }
     }
 
-    /// Picks the owner, moves the marks of the classes that are reached, and
+    /// Picks the owner, moves the marks of the classes that pass the turn on, and
     /// takes one of the owner's turns left.
     fn walk(&mut self) {
         let takers = self.waiting & self.with_turns | self.tops;
         let mut class = self.least;
-        loop {
+        while takers >> class & 1 == 0 {
+            // W-201: "it moves first and then names the child". A class that does
+            // not take the turn has children, so the moved mark is not 0.
             let mark = self.moved_mark(class);
             self.marks[class] = mark;
-            if takers >> class & 1 == 1 {
-                break;
-            }
-            // A class that does not take the turn has children, so the moved
-            // mark is not 0.
             class = self.child(class, mark);
         }
         self.owner = class;
@@ -304,15 +301,15 @@ impl Controller {
         true
     }
 
-    /// The mark of a class once it is moved on; 0 where it has no children.
+    /// The mark of a class with children once it is moved on. No other class is
+    /// asked: it takes every turn that reaches it.
     #[inline]
     fn moved_mark(&self, class: usize) -> u8 {
-        let count = self.child_count[class];
         let mark = self.marks[class];
-        if mark < count {
+        if mark < self.child_count[class] {
             mark + 1
         } else {
-            count.min(1)
+            1
         }
     }
 

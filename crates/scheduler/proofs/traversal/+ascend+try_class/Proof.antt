@@ -3,18 +3,16 @@
 -- Assumes nothing.
 use mathlib.Core.Path.{_≡_, sym, ap, _∙_, subst}
 use mathlib.Core.Bool.{true, false}
-use mathlib.Core.List.{List}
 use Prim.Native.Nat.{ℕ, _+_, _*_, _≤_, _<_}
 use native.Mathlib.Omega.{arith}
 use borrow.Author.Needs.{needs}
-use lib.ListN.{length, getD, set, length-set}
-use lib.Seq.{getD-set-same}
+use lib.ListN.{getD, set, length-set}
 use Rattle.masks.specs.Mask.{nth}
 use Rattle.order.specs.Order.{strictlyIn, aboveIn}
 use Rattle.basics.proofs.Below.{count-le}
-use Rattle.masks.proofs.Numbered as numbered
-use Rattle.rules.specs.Traversal.{candidates, moved, movedPointer, reachedAt, named, takes, Reached, endsAt, tryClass}
-use Rattle.rules.proofs.Traversal.{moved-names, passes-on, try-takes, try-passes, falls as fewer-above, enough}
+use Rattle.masks.proofs.Masks.{member-small}
+use Rattle.rules.specs.Traversal.{candidates, movedPointer, passedAt, named, takes, endsAt, tryClass}
+use Rattle.rules.proofs.Traversal.{named-covers, passes-on, try-takes, try-passes, falls as fewer-above, enough}
 use borrow.Fn.Kinds.{In}
 use borrow.Fn.PlainCycle.{Measures, is, falls, and}
 use Rattle.scheduler.proofs.traversal.ascend.Reads as ascend
@@ -48,25 +46,79 @@ abbrev try-class-below : ℕ → In 5 try-class-kinds.ps
 try-class-below t =
     and 5 try-class-kinds.ps (falls 5 try-class-kinds.ps _<_ μ-try-class t) try-class.Pre
 
--- the traversal ends at a class whose pointer is v
-at-class : ℕ → List ℕ → ℕ → Reached
-at-class class pointers v = record { owner = class; pointers = set pointers class v }
-
--- the pointer that was stored is the one that is read
-stored-pointer : {t : ℕ} → (s : try-class-lts.Start (
+ascend-mul-moved : (t : ℕ) → ascend-lts.Need-mul-moved (
   moved-reads.Asked,
   moved-reads.Learnt,
-  takes-reads.Asked,
-  takes-reads.Learnt,
-  ascend-below t,
-  ascend.Post,
-) (try-class-at t) try-class.Post) (v : ℕ) → getD (set (s .args .pointers .now) (s .args .class) v) (s .args .class) 0 ≡ v
-stored-pointer s v =
-    let class : s .args .class < 16 = s .pre .1 .1 in
-    let long : length (s .args .pointers .now) ≡ 16 = s .pre .1 .2 in
-    getD-set-same (s .args .pointers .now) (s .args .class) v 0 (omega arith)
+  nth-reads.Asked,
+  nth-reads.Learnt,
+  try-class-below t,
+  try-class.Post,
+) (ascend-at t) ascend.Post
+ascend-mul-moved t c = search needs
+
+ascend-element-copy-out-moved : (t : ℕ) → ascend-lts.Need-element-copy-out-moved (
+  moved-reads.Asked,
+  moved-reads.Learnt,
+  nth-reads.Asked,
+  nth-reads.Learnt,
+  try-class-below t,
+  try-class.Post,
+) (ascend-at t) ascend.Post
+ascend-element-copy-out-moved t c = search needs
+
+ascend-mul-moved-2 : (t : ℕ) → ascend-lts.Need-mul-moved-2 (
+  moved-reads.Asked,
+  moved-reads.Learnt,
+  nth-reads.Asked,
+  nth-reads.Learnt,
+  try-class-below t,
+  try-class.Post,
+) (ascend-at t) ascend.Post
+ascend-mul-moved-2 t c = search needs
+
+ascend-element-copy-out-moved-2 : (t : ℕ) → ascend-lts.Need-element-copy-out-moved-2 (
+  moved-reads.Asked,
+  moved-reads.Learnt,
+  nth-reads.Asked,
+  nth-reads.Learnt,
+  try-class-below t,
+  try-class.Post,
+) (ascend-at t) ascend.Post
+ascend-element-copy-out-moved-2 t c = search needs
+
+ascend-moved-requires : (t : ℕ) → ascend-lts.Need-moved-requires (
+  moved-reads.Asked,
+  moved-reads.Learnt,
+  nth-reads.Asked,
+  nth-reads.Learnt,
+  try-class-below t,
+  try-class.Post,
+) (ascend-at t) ascend.Post
+ascend-moved-requires t c κs = search needs
+
+ascend-mul-pointers : (t : ℕ) → ascend-lts.Need-mul-pointers (
+  moved-reads.Asked,
+  moved-reads.Learnt,
+  nth-reads.Asked,
+  nth-reads.Learnt,
+  try-class-below t,
+  try-class.Post,
+) (ascend-at t) ascend.Post
+ascend-mul-pointers t c = search needs
+
+ascend-element-write-pointers : (t : ℕ) → ascend-lts.Need-element-write-pointers (
+  moved-reads.Asked,
+  moved-reads.Learnt,
+  nth-reads.Asked,
+  nth-reads.Learnt,
+  try-class-below t,
+  try-class.Post,
+) (ascend-at t) ascend.Post
+ascend-element-write-pointers t c = search needs
 
 ascend-mul-nth : (t : ℕ) → ascend-lts.Need-mul-nth (
+  moved-reads.Asked,
+  moved-reads.Learnt,
   nth-reads.Asked,
   nth-reads.Learnt,
   try-class-below t,
@@ -75,6 +127,8 @@ ascend-mul-nth : (t : ℕ) → ascend-lts.Need-mul-nth (
 ascend-mul-nth t c = search needs
 
 ascend-element-copy-out-nth : (t : ℕ) → ascend-lts.Need-element-copy-out-nth (
+  moved-reads.Asked,
+  moved-reads.Learnt,
   nth-reads.Asked,
   nth-reads.Learnt,
   try-class-below t,
@@ -82,23 +136,9 @@ ascend-element-copy-out-nth : (t : ℕ) → ascend-lts.Need-element-copy-out-nth
 ) (ascend-at t) ascend.Post
 ascend-element-copy-out-nth t c = search needs
 
-ascend-mul-nth-2 : (t : ℕ) → ascend-lts.Need-mul-nth-2 (
-  nth-reads.Asked,
-  nth-reads.Learnt,
-  try-class-below t,
-  try-class.Post,
-) (ascend-at t) ascend.Post
-ascend-mul-nth-2 t c = search needs
-
-ascend-element-copy-out-nth-2 : (t : ℕ) → ascend-lts.Need-element-copy-out-nth-2 (
-  nth-reads.Asked,
-  nth-reads.Learnt,
-  try-class-below t,
-  try-class.Post,
-) (ascend-at t) ascend.Post
-ascend-element-copy-out-nth-2 t c = search needs
-
 ascend-nth-requires : (t : ℕ) → ascend-lts.Need-nth-requires (
+  moved-reads.Asked,
+  moved-reads.Learnt,
   nth-reads.Asked,
   nth-reads.Learnt,
   try-class-below t,
@@ -107,111 +147,52 @@ ascend-nth-requires : (t : ℕ) → ascend-lts.Need-nth-requires (
 ascend-nth-requires t c κs = search needs
 
 ascend-try-class-requires : (t : ℕ) → ascend-lts.Need-try-class-requires (
+  moved-reads.Asked,
+  moved-reads.Learnt,
   nth-reads.Asked,
   nth-reads.Learnt,
   try-class-below t,
   try-class.Post,
 ) (ascend-at t) ascend.Post
+unfolding named movedPointer
 ascend-try-class-requires t c κs =
     let at-nth = c .before in
-    let s = at-nth .before .before .before in
+    let at-moved = at-nth .before .before in
+    let s = at-moved .before .before .before in
     let rows = s .args .rows .now in
-    let m = getD (s .args .covers .now) (s .args .class) 0 in
-    let k = getD (s .args .pointers .now) (s .args .class) 0 in
+    let covers = s .args .covers .now in
+    let pointers = s .args .pointers .now in
+    let class = s .args .class in
     let order = s .pre .1 .0 in
-    let found = numbered.named m k (s .pre .1 .3 .some) (s .pre .1 .3 .within) in
-    let next = at-nth .nth .ensures in
-    let less : aboveIn rows (at-nth .nth .result) < aboveIn rows (s .args .class) =
-    subst (λ (j : ℕ). aboveIn rows j < aboveIn rows (s .args .class)) (sym next) (order .falls (s .args .class) (nth m k) (found .in-set))
-    in
-    let small : at-nth .nth .result < 16 = subst (λ (j : ℕ). j < 16) (sym next) (found .small) in
-    (omega (arith, s .pre .0, less), (order, small, s .pre .1 .2))
+    let covered = named-covers covers pointers class (order .sets class) (s .pre .1 .3) in
+    let next : at-nth .nth .result ≡ named covers pointers class = at-nth .nth .ensures ∙ ap (nth (getD covers class 0)) (at-moved .moved .ensures) in
+    let less = subst (λ (j : ℕ). aboveIn rows j < aboveIn rows class) (sym next) (order .falls class (named covers pointers class) covered) in
+    let small = subst (λ (j : ℕ). j < 16) (sym next) (member-small (getD covers class 0) (named covers pointers class) (order .sets class) covered) in
+    (omega (arith, s .pre .0, less), (order, small, length-set pointers class (at-moved .moved .result) ∙ s .pre .1 .2))
 
 ascend-returns : (t : ℕ) → ascend-lts.Need-returns (
+  moved-reads.Asked,
+  moved-reads.Learnt,
   nth-reads.Asked,
   nth-reads.Learnt,
   try-class-below t,
   try-class.Post,
 ) (ascend-at t) ascend.Post
+unfolding passedAt named movedPointer
 ascend-returns t c =
     let at-nth = c .before .before in
-    let s = at-nth .before .before .before in
+    let at-moved = at-nth .before .before in
+    let s = at-moved .before .before .before in
+    let covers = s .args .covers .now in
+    let pointers = s .args .pointers .now in
+    let class = s .args .class in
+    let all = candidates covers (s .args .lengths .now) (s .args .left .now) in
+    let next : at-nth .nth .result ≡ named covers pointers class = at-nth .nth .ensures ∙ ap (nth (getD covers class 0)) (at-moved .moved .ensures) in
     c .try-class .ensures
-    ∙ ap (λ (j : ℕ). tryClass 16 (candidates (s .args .covers .now) (s .args .lengths .now) (s .args .left .now)) (s .args .pointers .now) j) (at-nth .nth .ensures)
-
-try-class-mul-moved : (t : ℕ) → try-class-lts.Need-mul-moved (
-  moved-reads.Asked,
-  moved-reads.Learnt,
-  takes-reads.Asked,
-  takes-reads.Learnt,
-  ascend-below t,
-  ascend.Post,
-) (try-class-at t) try-class.Post
-try-class-mul-moved t c = search needs
-
-try-class-element-copy-out-moved : (t : ℕ) → try-class-lts.Need-element-copy-out-moved (
-  moved-reads.Asked,
-  moved-reads.Learnt,
-  takes-reads.Asked,
-  takes-reads.Learnt,
-  ascend-below t,
-  ascend.Post,
-) (try-class-at t) try-class.Post
-try-class-element-copy-out-moved t c = search needs
-
-try-class-mul-moved-2 : (t : ℕ) → try-class-lts.Need-mul-moved-2 (
-  moved-reads.Asked,
-  moved-reads.Learnt,
-  takes-reads.Asked,
-  takes-reads.Learnt,
-  ascend-below t,
-  ascend.Post,
-) (try-class-at t) try-class.Post
-try-class-mul-moved-2 t c = search needs
-
-try-class-element-copy-out-moved-2 : (t : ℕ) → try-class-lts.Need-element-copy-out-moved-2 (
-  moved-reads.Asked,
-  moved-reads.Learnt,
-  takes-reads.Asked,
-  takes-reads.Learnt,
-  ascend-below t,
-  ascend.Post,
-) (try-class-at t) try-class.Post
-try-class-element-copy-out-moved-2 t c = search needs
-
-try-class-moved-requires : (t : ℕ) → try-class-lts.Need-moved-requires (
-  moved-reads.Asked,
-  moved-reads.Learnt,
-  takes-reads.Asked,
-  takes-reads.Learnt,
-  ascend-below t,
-  ascend.Post,
-) (try-class-at t) try-class.Post
-try-class-moved-requires t c κs = search needs
-
-try-class-mul-pointers : (t : ℕ) → try-class-lts.Need-mul-pointers (
-  moved-reads.Asked,
-  moved-reads.Learnt,
-  takes-reads.Asked,
-  takes-reads.Learnt,
-  ascend-below t,
-  ascend.Post,
-) (try-class-at t) try-class.Post
-try-class-mul-pointers t c = search needs
-
-try-class-element-write-pointers : (t : ℕ) → try-class-lts.Need-element-write-pointers (
-  moved-reads.Asked,
-  moved-reads.Learnt,
-  takes-reads.Asked,
-  takes-reads.Learnt,
-  ascend-below t,
-  ascend.Post,
-) (try-class-at t) try-class.Post
-try-class-element-write-pointers t c = search needs
+    ∙ ap (λ (v : ℕ). tryClass 16 all (set pointers class v) (at-nth .nth .result)) (at-moved .moved .ensures)
+    ∙ ap (tryClass 16 all (passedAt covers pointers class)) next
 
 try-class-mul-takes : (t : ℕ) → try-class-lts.Need-mul-takes (
-  moved-reads.Asked,
-  moved-reads.Learnt,
   takes-reads.Asked,
   takes-reads.Learnt,
   ascend-below t,
@@ -220,8 +201,6 @@ try-class-mul-takes : (t : ℕ) → try-class-lts.Need-mul-takes (
 try-class-mul-takes t c = search needs
 
 try-class-element-copy-out-takes : (t : ℕ) → try-class-lts.Need-element-copy-out-takes (
-  moved-reads.Asked,
-  moved-reads.Learnt,
   takes-reads.Asked,
   takes-reads.Learnt,
   ascend-below t,
@@ -230,8 +209,6 @@ try-class-element-copy-out-takes : (t : ℕ) → try-class-lts.Need-element-copy
 try-class-element-copy-out-takes t c = search needs
 
 try-class-mul-takes-2 : (t : ℕ) → try-class-lts.Need-mul-takes-2 (
-  moved-reads.Asked,
-  moved-reads.Learnt,
   takes-reads.Asked,
   takes-reads.Learnt,
   ascend-below t,
@@ -240,8 +217,6 @@ try-class-mul-takes-2 : (t : ℕ) → try-class-lts.Need-mul-takes-2 (
 try-class-mul-takes-2 t c = search needs
 
 try-class-element-copy-out-takes-2 : (t : ℕ) → try-class-lts.Need-element-copy-out-takes-2 (
-  moved-reads.Asked,
-  moved-reads.Learnt,
   takes-reads.Asked,
   takes-reads.Learnt,
   ascend-below t,
@@ -250,8 +225,6 @@ try-class-element-copy-out-takes-2 : (t : ℕ) → try-class-lts.Need-element-co
 try-class-element-copy-out-takes-2 t c = search needs
 
 try-class-mul-takes-3 : (t : ℕ) → try-class-lts.Need-mul-takes-3 (
-  moved-reads.Asked,
-  moved-reads.Learnt,
   takes-reads.Asked,
   takes-reads.Learnt,
   ascend-below t,
@@ -260,8 +233,6 @@ try-class-mul-takes-3 : (t : ℕ) → try-class-lts.Need-mul-takes-3 (
 try-class-mul-takes-3 t c = search needs
 
 try-class-element-copy-out-takes-3 : (t : ℕ) → try-class-lts.Need-element-copy-out-takes-3 (
-  moved-reads.Asked,
-  moved-reads.Learnt,
   takes-reads.Asked,
   takes-reads.Learnt,
   ascend-below t,
@@ -270,8 +241,6 @@ try-class-element-copy-out-takes-3 : (t : ℕ) → try-class-lts.Need-element-co
 try-class-element-copy-out-takes-3 t c = search needs
 
 try-class-takes-requires : (t : ℕ) → try-class-lts.Need-takes-requires (
-  moved-reads.Asked,
-  moved-reads.Learnt,
   takes-reads.Asked,
   takes-reads.Learnt,
   ascend-below t,
@@ -280,27 +249,20 @@ try-class-takes-requires : (t : ℕ) → try-class-lts.Need-takes-requires (
 try-class-takes-requires t c κs = search needs
 
 try-class-returns : (t : ℕ) → try-class-lts.Need-returns (
-  moved-reads.Asked,
-  moved-reads.Learnt,
   takes-reads.Asked,
   takes-reads.Learnt,
   ascend-below t,
   ascend.Post,
 ) (try-class-at t) try-class.Post
-unfolding takes movedPointer reachedAt endsAt at-class
+unfolding takes endsAt
 try-class-returns t c =
     let at-takes = c .before in
-    let takes-arg = at-takes .before .before .before in
-    let at-moved = takes-arg .before in
-    let s = at-moved .before .before .before in
+    let s = at-takes .before .before .before .before in
     let all = candidates (s .args .covers .now) (s .args .lengths .now) (s .args .left .now) in
     let here : takes all (s .args .class) ≡ true = sym (at-takes .takes .ensures) ∙ c .if1 .taken in
-    ap (at-class (s .args .class) (s .args .pointers .now)) (at-moved .moved .ensures)
-    ∙ sym (try-takes all 16 (s .args .pointers .now) (s .args .class) here)
+    sym (try-takes all 16 (s .args .pointers .now) (s .args .class) here)
 
 try-class-ascend-requires : (t : ℕ) → try-class-lts.Need-ascend-requires (
-  moved-reads.Asked,
-  moved-reads.Learnt,
   takes-reads.Asked,
   takes-reads.Learnt,
   ascend-below t,
@@ -309,54 +271,37 @@ try-class-ascend-requires : (t : ℕ) → try-class-lts.Need-ascend-requires (
 unfolding takes
 try-class-ascend-requires t c κs =
     let at-takes = c .before .before in
-    let takes-arg = at-takes .before .before .before in
-    let at-moved = takes-arg .before in
-    let s = at-moved .before .before .before in
-    let covers = s .args .covers .now in
-    let class = s .args .class in
-    let order = s .pre .1 .0 in
-    let all = candidates covers (s .args .lengths .now) (s .args .left .now) in
-    let on : takes all class ≡ false = sym (at-takes .takes .ensures) ∙ c .before .if1 .left in
-    let range = moved-names (getD covers class 0) (getD (s .args .pointers .now) class 0) (order .sets class) (passes-on all class on) in
-    let stored = stored-pointer s (at-moved .moved .result) in (
-      omega (arith, s .pre .0),
-      (order, s .pre .1 .1, length-set (s .args .pointers .now) class (at-moved .moved .result) ∙ s .pre .1 .2, record { some = omega (arith, stored, range .some, at-moved .moved .ensures); within = omega (arith, stored, range .within, at-moved .moved .ensures) }),
-    )
+    let s = at-takes .before .before .before .before in
+    let all = candidates (s .args .covers .now) (s .args .lengths .now) (s .args .left .now) in
+    let on : takes all (s .args .class) ≡ false = sym (at-takes .takes .ensures) ∙ c .before .if1 .left in
+    (omega (arith, s .pre .0), (s .pre .1 .0, s .pre .1 .1, s .pre .1 .2, passes-on all (s .args .class) on))
 
 try-class-returns-2 : (t : ℕ) → try-class-lts.Need-returns-2 (
-  moved-reads.Asked,
-  moved-reads.Learnt,
   takes-reads.Asked,
   takes-reads.Learnt,
   ascend-below t,
   ascend.Post,
 ) (try-class-at t) try-class.Post
-unfolding takes movedPointer reachedAt named aboveIn
+unfolding takes aboveIn
 try-class-returns-2 t c =
     let at-takes = c .before .before .before in
-    let takes-arg = at-takes .before .before .before in
-    let at-moved = takes-arg .before in
-    let s = at-moved .before .before .before in
+    let s = at-takes .before .before .before .before in
     let covers = s .args .covers .now in
-    let lengths = s .args .lengths .now in
-    let left = s .args .left .now in
     let pointers = s .args .pointers .now in
     let class = s .args .class in
-    let all = candidates covers lengths left in
+    let all = candidates covers (s .args .lengths .now) (s .args .left .now) in
     let on : takes all class ≡ false = sym (at-takes .takes .ensures) ∙ c .before .before .if1 .left in
-    let went = at-moved .moved .ensures in
-    let after = reachedAt covers pointers class in
     let below : aboveIn (s .args .rows .now) (named covers pointers class) ≤ 15 =
     omega (arith, fewer-above all (s .args .rows .now) (s .pre .1 .0) pointers class on, count-le (strictlyIn (s .args .rows .now) class) 16)
     in
     c .ascend .ensures
-    ∙ ap (λ (v : ℕ). tryClass 16 all (set pointers class v) (nth (getD covers class 0) (getD (set pointers class v) class 0))) went
-    ∙ ap (λ (k : ℕ). tryClass 16 all after (nth (getD covers class 0) k)) (stored-pointer s (movedPointer covers pointers class))
-    ∙ sym (enough all (s .args .rows .now) (s .pre .1 .0) 15 after (named covers pointers class) below)
+    ∙ sym (enough all (s .args .rows .now) (s .pre .1 .0) 15 (passedAt covers pointers class) (named covers pointers class) below)
     ∙ sym (try-passes all 15 pointers class on)
 
 pub +ascend+try-class-spec : {M : Type 1} → statement M
 +ascend+try-class-spec = close μ-ascend μ-try-class (λ t. ascend-lts.spec (
+  moved-reads.Asked,
+  moved-reads.Learnt,
   nth-reads.Asked,
   nth-reads.Learnt,
   try-class-below t,
@@ -364,16 +309,19 @@ pub +ascend+try-class-spec : {M : Type 1} → statement M
 )
     (ascend-at t)
     ascend.Post
+    (ascend-mul-moved t)
+    (ascend-element-copy-out-moved t)
+    (ascend-mul-moved-2 t)
+    (ascend-element-copy-out-moved-2 t)
+    (ascend-moved-requires t)
+    (ascend-mul-pointers t)
+    (ascend-element-write-pointers t)
     (ascend-mul-nth t)
     (ascend-element-copy-out-nth t)
-    (ascend-mul-nth-2 t)
-    (ascend-element-copy-out-nth-2 t)
     (ascend-nth-requires t)
     (ascend-try-class-requires t)
     (ascend-returns t))
     λ t. try-class-lts.spec (
-      moved-reads.Asked,
-      moved-reads.Learnt,
       takes-reads.Asked,
       takes-reads.Learnt,
       ascend-below t,
@@ -381,13 +329,6 @@ pub +ascend+try-class-spec : {M : Type 1} → statement M
     )
     (try-class-at t)
     try-class.Post
-    (try-class-mul-moved t)
-    (try-class-element-copy-out-moved t)
-    (try-class-mul-moved-2 t)
-    (try-class-element-copy-out-moved-2 t)
-    (try-class-moved-requires t)
-    (try-class-mul-pointers t)
-    (try-class-element-write-pointers t)
     (try-class-mul-takes t)
     (try-class-element-copy-out-takes t)
     (try-class-mul-takes-2 t)

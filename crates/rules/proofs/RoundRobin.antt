@@ -1,0 +1,363 @@
+-- W-201's round robin holds of every policy in range: a traversal only rises, so it passes on from a class once at most, and each class's pointer moves by one for each turn that the class passes on.
+-- Assumes nothing.
+use mathlib.Core.Path.{_≡_, refl, sym, ap, _∙_, subst}
+use mathlib.Core.Logic.{_⊎_, inl, inr, ⊎-elim}
+use mathlib.Core.Bool.{Bool, true, false, cond, _&&_, _||_}
+use mathlib.Core.List.{List, [], _∷_}
+use Prim.Native.Nat.{ℕ, zero, suc, _+_, _-_, _^_, _%_, _≤_, _<_}
+use native.Mathlib.Nat.{lt-irrefl, mod-lt, zero-mod}
+use native.Mathlib.Omega.{arith}
+use borrow.Author.Tests.{eqb-true, eqb-false, eq-eqb, ne-eqb, lt-ltb, le-ltb}
+use lib.Dec.{ltb, eqb}
+use lib.ListN.{length, getD, length-set}
+use lib.Seq.{getD-set-same, getD-set-other}
+use Rattle.masks.specs.Mask.{size, nth}
+use Rattle.order.specs.Order.{aboveIn}
+use Rattle.policy.specs.Policy.{coversOf, coverCount}
+use Rattle.policy.specs.Policy.{inRange as policyInRange}
+use Rattle.policy.specs.declared.Policy.{Policy}
+use Rattle.basics.proofs.Truth.{either, not-both, and-left, and-right, and-both, or-left, or-right, or-fails, or-cases, on-true, on-false}
+use Rattle.basics.proofs.Below.{lt-or-ge}
+use Rattle.requests.specs.Sizes.{lastCycle}
+use Rattle.requests.specs.Trace.{callOf}
+use Rattle.requests.specs.declared.Call.{Call}
+use Rattle.requests.specs.declared.Call.the-variants.{Tick, Offer, Malformed}
+use Rattle.state.specs.Fresh.{stateAtStart, freshState}
+use Rattle.state.specs.Range.{inRange}
+use Rattle.state.specs.declared.State.{State}
+use Rattle.state.specs.declared.Offered.{Offered}
+use Rattle.state.specs.declared.Ticked.{Ticked}
+use Rattle.rules.specs.Traversal.{firstClass, Candidates, candidates, moved, movedPointer, passedAt, named, takes, Reached, endsAt, tryClass}
+use Rattle.rules.specs.Step.{turnStarts, turnNumber, leftAtStart, turnWord, TurnStart, ownedBy, startTurn, turnsAt}
+use Rattle.rules.specs.Call.{offerOn, offer, afterTick, tick}
+use Rattle.rules.specs.Calls.{Answer, ticked, answer, answerTo, stateAfter}
+use Rattle.rules.specs.RoundRobin.{passesOn, passesTo, seenAt, triedFirst, tickStarts, tickPasses, tickPassesTo, Shows, callPasses, passedTurns, inTurn, RoundRobin}
+use Rattle.rules.proofs.Traversal.{moved-names, passes-on, try-takes, try-passes, falls, climbs}
+use Rattle.rules.proofs.Range.{ranged, in-range}
+use Rattle.rules.proofs.Call.{offer-is, tick-is, tick-late}
+use Rattle.rules.proofs.SingleCalls.{tick-called}
+use Rattle.rules.proofs.CallsKept.{zero-at, fresh-ranged}
+use Rattle.rules.proofs.Calendar.{next-within, next-wraps}
+use Rattle.rules.proofs.Calls.{answered-in-range}
+
+-- ---- the numbers in turn
+
+-- once a turn has been passed on
+some-turn : (k i : ℕ) → inTurn k (i + 1) ≡ i % k + 1
+unfolding inTurn
+some-turn k i =
+    let apart : (i + 1 ≡ 0) → ⊥ = λ e. lt-irrefl 0 (omega (arith, e)) in
+    let back : i + 1 - 1 ≡ i = omega arith in
+    rw (ne-eqb (i + 1) 0 apart) (ap (λ (x : ℕ). x % k + 1) back)
+
+-- a pointer that is moved is the next in turn
+next-turn : (set m : ℕ) → set < 2 ^ 16 → ((set ≡ 0) → ⊥) → moved set (inTurn (size set) m) ≡ inTurn (size set) (m + 1)
+unfolding moved inTurn
+next-turn set zero small full =
+    let range = moved-names set 0 small full in
+    let some : 0 < size set = omega (arith, range .some, range .within) in
+    rw (ne-eqb set 0 full, lt-ltb 0 (size set) some) (sym (ap (λ (x : ℕ). x + 1) (zero-mod (size set))))
+next-turn set (suc i) small full =
+    let k = size set in
+    let range = moved-names set 0 small full in
+    let some : 0 < k = omega (arith, range .some, range .within) in
+    let one : suc i ≡ i + 1 = omega arith in
+    let bound = mod-lt i {m = k} some in
+    let step : moved set (i % k + 1) ≡ (i + 1) % k + 1 =
+    ⊎-elim
+    (λ l. rw (ne-eqb set 0 full, lt-ltb (i % k + 1) k l) (sym (ap (λ (x : ℕ). x + 1) (next-within i k l))))
+    (λ l. rw (ne-eqb set 0 full, le-ltb (i % k + 1) k l) (sym (ap (λ (x : ℕ). x + 1) (next-wraps i k (omega (arith, l, bound))))))
+    (lt-or-ge (i % k + 1) k)
+    in
+    ap (λ (m : ℕ). moved set (inTurn k m)) one ∙ ap (moved set) (some-turn k i) ∙ step ∙ sym (some-turn k (i + 1)) ∙ ap (λ (m : ℕ). inTurn k (m + 1)) (sym one)
+
+module _ (p : Policy) (given : policyInRange p ≡ true) where
+  -- ---- one traversal
+
+  module _ (lengths left : List ℕ) where
+    abbrev all : Candidates
+    all = candidates (p .covers) lengths left
+
+    abbrev after : List ℕ → ℕ → List ℕ
+    after pointers from = passedAt (p .covers) pointers from
+
+    abbrev next : List ℕ → ℕ → ℕ
+    next pointers from = named (p .covers) pointers from
+
+    on-takes : (bound : ℕ) (pointers : List ℕ) (from c : ℕ) → takes all from ≡ true → passesOn bound all pointers from c ≡ false
+    unfolding passesOn
+    on-takes zero pointers from c t = refl
+    on-takes (suc bound) pointers from c t = on-true (takes all from) _ _ t
+
+    on-passes : (bound : ℕ) (pointers : List ℕ) (from c : ℕ) → takes all from ≡ false → passesOn (suc bound) all pointers from c ≡ (eqb from c || passesOn bound all (after pointers from) (next pointers from) c)
+    unfolding passesOn
+    on-passes bound pointers from c t = on-false (takes all from) _ _ t
+
+    -- where it passes on from another class than c, what it does about c is what it does from there on
+    to-passes : (bound : ℕ) (pointers : List ℕ) (from c : ℕ) → takes all from ≡ false → passesTo (suc bound) all pointers from c ≡ cond (eqb from c) (next pointers from) (passesTo bound all (after pointers from) (next pointers from) c)
+    unfolding passesTo
+    to-passes bound pointers from c t = on-false (takes all from) _ _ t
+
+    on-later : (bound : ℕ) (pointers : List ℕ) (from c : ℕ) → takes all from ≡ false → eqb from c ≡ false → passesOn (suc bound) all pointers from c ≡ true → passesOn bound all (after pointers from) (next pointers from) c ≡ true
+    on-later bound pointers from c t e h =
+        let later = passesOn bound all (after pointers from) (next pointers from) c in
+        sym (ap (λ (b : Bool). b || later) e) ∙ sym (on-passes bound pointers from c t) ∙ h
+
+    fewer : (pointers : List ℕ) (from : ℕ) → takes all from ≡ false → aboveIn (p .rows) (next pointers from) < aboveIn (p .rows) from
+    fewer pointers from t = falls all (p .rows) (climbs p given) pointers from t
+
+    -- it never passes on from a class that has more above it than where it is
+    never-back : (bound : ℕ) (pointers : List ℕ) (from c : ℕ) → aboveIn (p .rows) from < aboveIn (p .rows) c → passesOn bound all pointers from c ≡ false
+    unfolding passesOn
+    never-back zero pointers from c l = refl
+    never-back (suc bound) pointers from c l =
+        ⊎-elim (on-takes (suc bound) pointers from c)
+        (λ t.
+        on-passes bound pointers from c t
+        ∙ or-fails (eqb from c) (passesOn bound all (after pointers from) (next pointers from) c)
+        (ne-eqb from c (λ e. lt-irrefl (aboveIn (p .rows) c) (subst (λ (x : ℕ). aboveIn (p .rows) x < aboveIn (p .rows) c) e l)))
+        (never-back bound (after pointers from) (next pointers from) c (omega (arith, fewer pointers from t, l))))
+        (either (takes all from))
+
+    -- a pointer elsewhere stays
+    beside : (pointers : List ℕ) (from c : ℕ) → eqb from c ≡ false → getD (after pointers from) c 0 ≡ getD pointers c 0
+    unfolding passedAt
+    beside pointers from c e = getD-set-other pointers from c (movedPointer (p .covers) pointers from) 0 (λ i. eqb-false from c e (sym i))
+
+    here : (pointers : List ℕ) (from : ℕ) → length pointers ≡ 16 → from < 16 → getD (after pointers from) from 0 ≡ movedPointer (p .covers) pointers from
+    unfolding passedAt
+    here pointers from long small = getD-set-same pointers from (movedPointer (p .covers) pointers from) 0 (omega (arith, long))
+
+    still-long : (pointers : List ℕ) (from : ℕ) → length pointers ≡ 16 → length (after pointers from) ≡ 16
+    unfolding passedAt
+    still-long pointers from long = length-set pointers from (movedPointer (p .covers) pointers from) ∙ long
+
+    pub pointer-after : (bound : ℕ) (pointers : List ℕ) (from c : ℕ) → length pointers ≡ 16 → c < 16 → getD (tryClass bound all pointers from .pointers) c 0 ≡ cond (passesOn bound all pointers from c) (movedPointer (p .covers) pointers c) (getD pointers c 0)
+    unfolding passesOn tryClass endsAt movedPointer
+    pointer-after zero pointers from c long small = refl
+    pointer-after (suc bound) pointers from c long small =
+        let now : Bool → ℕ = λ b. cond b (movedPointer (p .covers) pointers c) (getD pointers c 0) in
+        ⊎-elim
+        (λ t. ap (λ (r : Reached). getD (r .pointers) c 0) (try-takes all (suc bound) pointers from t) ∙ sym (ap now (on-takes (suc bound) pointers from c t)))
+        (λ t.
+        let later = passesOn bound all (after pointers from) (next pointers from) c in
+        ap (λ (r : Reached). getD (r .pointers) c 0) (try-passes all bound pointers from t)
+        ∙ pointer-after bound (after pointers from) (next pointers from) c (still-long pointers from long) small
+        ∙ ⊎-elim
+        (λ e.
+        let same = eqb-true from c e in
+        let none : later ≡ false = never-back bound (after pointers from) (next pointers from) c (subst (λ (x : ℕ). aboveIn (p .rows) (next pointers from) < aboveIn (p .rows) x) same (fewer pointers from t)) in
+        ap (λ (b : Bool). cond b (movedPointer (p .covers) (after pointers from) c) (getD (after pointers from) c 0)) none
+        ∙ subst (λ (x : ℕ). getD (after pointers from) x 0 ≡ movedPointer (p .covers) pointers x) same (here pointers from long (subst (λ (x : ℕ). x < 16) (sym same) small))
+        ∙ sym (ap (λ (b : Bool). now (b || later)) e))
+        (λ e.
+        ap (λ (v : ℕ). cond later (moved (getD (p .covers) c 0) v) v) (beside pointers from c e)
+        ∙ sym (ap (λ (b : Bool). now (b || later)) e))
+        (either (eqb from c))
+        ∙ sym (ap now (on-passes bound pointers from c t)))
+        (either (takes all from))
+
+    -- where it passes on from a class, the class that it then tries is the one that the moved pointer names
+    pub passes-named : (bound : ℕ) (pointers : List ℕ) (from c : ℕ) → passesOn bound all pointers from c ≡ true → passesTo bound all pointers from c ≡ named (p .covers) pointers c
+    unfolding passesOn passesTo named movedPointer
+    passes-named zero pointers from c h = absurd (not-both h refl)
+    passes-named (suc bound) pointers from c h =
+        ⊎-elim
+        (λ t. absurd (not-both h (on-takes (suc bound) pointers from c t)))
+        (λ t.
+        let onward = passesTo bound all (after pointers from) (next pointers from) c in
+        to-passes bound pointers from c t
+        ∙ ⊎-elim
+        (λ e. ap (λ (b : Bool). cond b (next pointers from) onward) e ∙ ap (next pointers) (eqb-true from c e))
+        (λ e.
+        ap (λ (b : Bool). cond b (next pointers from) onward) e
+        ∙ passes-named bound (after pointers from) (next pointers from) c (on-later bound pointers from c t e h)
+        ∙ ap (λ (v : ℕ). nth (getD (p .covers) c 0) (moved (getD (p .covers) c 0) v)) (beside pointers from c e))
+        (either (eqb from c)))
+        (either (takes all from))
+
+    -- a class owns the turn or is passed on from
+    abbrev Ends : ℕ → List ℕ → ℕ → ℕ → Type 0
+    Ends bound pointers from d = (tryClass bound all pointers from .owner ≡ d) ⊎ (passesOn bound all pointers from d ≡ true)
+
+    -- the class that it starts at
+    pub first-ends : (bound : ℕ) (pointers : List ℕ) (from : ℕ) → Ends bound pointers from from
+    unfolding tryClass endsAt
+    first-ends zero pointers from = inl refl
+    first-ends (suc bound) pointers from =
+        ⊎-elim
+        (λ t. inl (ap (λ (r : Reached). r .owner) (try-takes all (suc bound) pointers from t)))
+        (λ t. inr (on-passes bound pointers from from t ∙ or-left (eqb from from) _ (eq-eqb from from refl)))
+        (either (takes all from))
+
+    -- and each class that it passes the turn on to
+    pub next-ends : (bound : ℕ) (pointers : List ℕ) (from c : ℕ) → passesOn bound all pointers from c ≡ true → Ends bound pointers from (passesTo bound all pointers from c)
+    unfolding passesOn
+    next-ends zero pointers from c h = absurd (not-both h refl)
+    next-ends (suc bound) pointers from c h =
+        ⊎-elim
+        (λ t. absurd (not-both h (on-takes (suc bound) pointers from c t)))
+        (λ t.
+        let rest : (d : ℕ) → Ends bound (after pointers from) (next pointers from) d → Ends (suc bound) pointers from d =
+        λ d.
+        ⊎-elim
+        (λ o. inl (ap (λ (r : Reached). r .owner) (try-passes all bound pointers from t) ∙ o))
+        (λ o. inr (on-passes bound pointers from d t ∙ or-right (eqb from d) _ o))
+        in
+        let onward = passesTo bound all (after pointers from) (next pointers from) c in
+        let to : (b : Bool) → eqb from c ≡ b → passesTo (suc bound) all pointers from c ≡ cond b (next pointers from) onward = λ b e. to-passes bound pointers from c t ∙ ap (λ (x : Bool). cond x (next pointers from) onward) e in
+        ⊎-elim
+        (λ e. subst (Ends (suc bound) pointers from) (sym (to true e)) (rest (next pointers from) (first-ends bound (after pointers from) (next pointers from))))
+        (λ e. subst (Ends (suc bound) pointers from) (sym (to false e)) (rest onward (next-ends bound (after pointers from) (next pointers from) c (on-later bound pointers from c t e h))))
+        (either (eqb from c)))
+        (either (takes all from))
+
+    -- a class that it passes on from has a child
+    pub passes-full : (bound : ℕ) (pointers : List ℕ) (from c : ℕ) → passesOn bound all pointers from c ≡ true → getD (p .covers) c 0 ≡ 0 → ⊥
+    unfolding passesOn
+    passes-full zero pointers from c h none = not-both h refl
+    passes-full (suc bound) pointers from c h none =
+        ⊎-elim
+        (λ t. not-both h (on-takes (suc bound) pointers from c t))
+        (λ t.
+        ⊎-elim
+        (λ e. passes-on all from t (ap (λ (x : ℕ). getD (p .covers) x 0) (eqb-true from c e) ∙ none))
+        (λ later. passes-full bound (after pointers from) (next pointers from) c later none)
+        (or-cases (eqb from c) (passesOn bound all (after pointers from) (next pointers from) c) (sym (on-passes bound pointers from c t) ∙ h)))
+        (either (takes all from))
+
+  -- ---- one call
+
+  -- the pointer of a class after a call
+  abbrev moves-on : State → ℕ → Bool → ℕ
+  moves-on s c b = cond b (movedPointer (p .covers) (s .turns .pointers) c) (getD (s .turns .pointers) c 0)
+
+  module _ (s : State) (fits : inRange p s ≡ true) (c : ℕ) (small : c < 16) where
+    long : length (s .turns .pointers) ≡ 16
+    long = ranged p s fits .turns .pointers-fit .sixteen
+
+    abbrev number : ℕ
+    number = turnNumber p (s .cycle)
+
+    tick-moves : getD (tick p s .state .turns .pointers) c 0 ≡ moves-on s c (tickPasses p s c)
+    unfolding tickPasses afterTick turnsAt startTurn ownedBy
+    tick-moves =
+        let passed = passesOn 16 (seenAt p s) (s .turns .pointers) (firstClass p number) c in
+        ⊎-elim
+        (λ l.
+        ap (λ (t : Ticked). getD (t .state .turns .pointers) c 0) (tick-is p s fits l)
+        ∙ ⊎-elim
+        (λ e.
+        ap (λ (t : TurnStart). getD (t .turns .pointers) c 0) (on-true (turnStarts p (s .cycle)) _ _ e)
+        ∙ pointer-after (s .queues .lengths) (leftAtStart p number (s .turns .left)) 16 (s .turns .pointers) (firstClass p number) c long small
+        ∙ sym (ap (λ (b : Bool). moves-on s c (b && turnStarts p (s .cycle) && passed)) l ∙ ap (λ (b : Bool). moves-on s c (b && passed)) e))
+        (λ e.
+        ap (λ (t : TurnStart). getD (t .turns .pointers) c 0) (on-false (turnStarts p (s .cycle)) _ _ e)
+        ∙ sym (ap (λ (b : Bool). moves-on s c (b && turnStarts p (s .cycle) && passed)) l ∙ ap (λ (b : Bool). moves-on s c (b && passed)) e))
+        (either (turnStarts p (s .cycle))))
+        (λ l.
+        ap (λ (t : Ticked). getD (t .state .turns .pointers) c 0) (tick-late p s fits l)
+        ∙ sym (ap (λ (b : Bool). moves-on s c (b && turnStarts p (s .cycle) && passed)) l))
+        (either (ltb (s .cycle) lastCycle))
+
+    answer-moves : (t : Call) → getD (answer p s t .state .turns .pointers) c 0 ≡ moves-on s c (callPasses p s t c)
+    unfolding answer callPasses offerOn
+    answer-moves Tick = tick-moves
+    answer-moves (Offer r) = ap (λ (o : Offered). getD (o .state .turns .pointers) c 0) (offer-is p s fits r)
+    answer-moves Malformed = refl
+
+    -- a class that a call passes on from has a child
+    call-full : (t : Call) → callPasses p s t c ≡ true → coversOf p c ≡ 0 → ⊥
+    unfolding callPasses tickPasses coversOf
+    call-full Tick h none =
+        passes-full (s .queues .lengths) (leftAtStart p number (s .turns .left)) 16 (s .turns .pointers) (firstClass p number) c
+        (and-right (tickStarts p s) _ h)
+        none
+    call-full (Offer r) h none = not-both h refl
+    call-full Malformed h none = not-both h refl
+
+    -- from one in turn to the next
+    call-turn : (m : ℕ) → getD (s .turns .pointers) c 0 ≡ inTurn (coverCount p c) m → (w : ℕ) → getD (answerTo p s w .state .turns .pointers) c 0 ≡ inTurn (coverCount p c) (m + cond (callPasses p s (callOf w) c) 1 0)
+    unfolding answerTo movedPointer coverCount coversOf
+    call-turn m h w =
+        let passed = callPasses p s (callOf w) c in
+        let k = size (getD (p .covers) c 0) in
+        let none : m ≡ m + 0 = omega arith in
+        answer-moves (callOf w)
+        ∙ ⊎-elim
+        (λ e.
+        ap (moves-on s c) e
+        ∙ ap (moved (getD (p .covers) c 0)) h
+        ∙ next-turn (getD (p .covers) c 0) m (climbs p given .sets c) (call-full (callOf w) e)
+        ∙ sym (ap (λ (b : Bool). inTurn k (m + cond b 1 0)) e))
+        (λ e. ap (moves-on s c) e ∙ h ∙ ap (inTurn k) none ∙ sym (ap (λ (b : Bool). inTurn k (m + cond b 1 0)) e))
+        (either passed)
+
+  -- ---- the log
+
+  module _ (s : State) (fits : inRange p s ≡ true) where
+    abbrev owner : ℕ
+    owner = tryClass 16 (seenAt p s) (s .turns .pointers) (triedFirst p s) .owner
+
+    owner-shown : tickStarts p s ≡ true → (d : ℕ) → owner ≡ d → Shows p s d
+    unfolding afterTick turnsAt startTurn ownedBy
+    owner-shown h d o =
+        let begins = and-right (ltb (s .cycle) lastCycle) (turnStarts p (s .cycle)) h in
+        let here : Answer → Type 0 = λ a. a .turn ≡ turnWord d (a .state .turns .elided) in
+        let start : TurnStart → Type 0 = λ t. t .shown ≡ turnWord d (t .turns .elided) in
+        let started = startTurn p (turnNumber p (s .cycle)) (s .queues .lengths) (s .turns .left) (s .turns .pointers) in
+        let shown : start started = ap (λ (x : ℕ). turnWord x (started .turns .elided)) o in
+        subst here (sym (tick-called p s ∙ ap ticked (tick-is p s fits (and-left (ltb (s .cycle) lastCycle) (turnStarts p (s .cycle)) h))))
+        (subst start (sym (on-true (turnStarts p (s .cycle)) _ _ begins)) shown)
+
+    -- from the traversal to the log
+    seen : tickStarts p s ≡ true → (d : ℕ) → (owner ≡ d) ⊎ (passesOn 16 (seenAt p s) (s .turns .pointers) (triedFirst p s) d ≡ true) → Shows p s d ⊎ (tickPasses p s d ≡ true)
+    unfolding tickPasses
+    seen h d = ⊎-elim (λ o. inl (owner-shown h d o)) (λ o. inr (and-both h o))
+
+  -- ---- a list of calls
+
+  list-turn : (s : State) → inRange p s ≡ true → (c : ℕ) → c < 16 → (m : ℕ) → getD (s .turns .pointers) c 0 ≡ inTurn (coverCount p c) m → (ws : List ℕ) → getD (stateAfter p s ws .turns .pointers) c 0 ≡ inTurn (coverCount p c) (m + passedTurns p s ws c)
+  unfolding stateAfter passedTurns
+  list-turn s fits c small m h [] = let none : m ≡ m + 0 = omega arith in h ∙ ap (inTurn (coverCount p c)) none
+  list-turn s fits c small m h (w ∷ ws) =
+      let one : ℕ = cond (callPasses p s (callOf w) c) 1 0 in
+      let rest = passedTurns p (answerTo p s w .state) ws c in
+      let sum : m + one + rest ≡ m + (one + rest) = omega arith in
+      list-turn (answerTo p s w .state) (answered-in-range p s w fits) c small (m + one) (call-turn s fits c small m h w) ws ∙ ap (inTurn (coverCount p c)) sum
+
+  fresh-turn : (c : ℕ) → getD (freshState p .turns .pointers) c 0 ≡ inTurn (coverCount p c) 0
+  unfolding freshState stateAtStart inTurn
+  fresh-turn c = zero-at 16 c
+
+  pointer-turn : (ws : List ℕ) (c : ℕ) → c < 16 → getD (stateAfter p (freshState p) ws .turns .pointers) c 0 ≡ inTurn (coverCount p c) (passedTurns p (freshState p) ws c)
+  pointer-turn ws c small =
+      let none : 0 + passedTurns p (freshState p) ws c ≡ passedTurns p (freshState p) ws c = omega arith in
+      list-turn (freshState p) (in-range p (freshState p) (fresh-ranged p given)) c small 0 (fresh-turn c) ws ∙ ap (inTurn (coverCount p c)) none
+
+  pub round-robin : RoundRobin p
+  unfolding tickPasses tickPassesTo named movedPointer coverCount coversOf
+  round-robin =
+      record {
+        moves = λ lengths left pointers from c long small. pointer-after lengths left 16 pointers from c long small;
+        pointer = pointer-turn;
+        goes =
+            λ ws c small h.
+            let s = stateAfter p (freshState p) ws in
+            let number = turnNumber p (s .cycle) in
+            let passed = and-right (tickStarts p s) _ h in
+            let lengths = s .queues .lengths in
+            let left = leftAtStart p number (s .turns .left) in
+            passes-named lengths left 16 (s .turns .pointers) (firstClass p number) c passed
+            ∙ ap (λ (v : ℕ). nth (getD (p .covers) c 0) (moved (getD (p .covers) c 0) v)) (pointer-turn ws c small)
+            ∙ ap (nth (getD (p .covers) c 0))
+            (next-turn (getD (p .covers) c 0) (passedTurns p (freshState p) ws c) (climbs p given .sets c)
+            (passes-full lengths left 16 (s .turns .pointers) (firstClass p number) c passed));
+        starts =
+            λ s fits h.
+            seen s fits h (triedFirst p s) (first-ends (s .queues .lengths) (seenAt p s .left) 16 (s .turns .pointers) (triedFirst p s));
+        ends =
+            λ s fits c h.
+            seen s fits (and-left (tickStarts p s) _ h) (tickPassesTo p s c)
+            (next-ends (s .queues .lengths) (seenAt p s .left) 16 (s .turns .pointers) (triedFirst p s) c (and-right (tickStarts p s) _ h));
+      }

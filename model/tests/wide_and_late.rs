@@ -67,15 +67,16 @@ fn the_trial_walk_moves_a_mark_back_to_1_after_two_to_thirteen_children() {
         for open in [1, middles] {
             let policy = one_way_up(middles, open);
             let (top, other) = (middles + 1, middles + 2);
-            // The open class is reached in every turn of this place, and its own
-            // mark goes to and fro between the two classes above it.
-            let reached = |turn: u32| turn % middles + 1 == open;
-            let visits = |turns: u32| (0..turns).filter(|&turn| reached(turn)).count();
+            // The open class is tried in every turn of this place and passes each
+            // of them on, so its own mark goes to and fro between the two classes
+            // above it.
+            let tried = |turn: u32| turn % middles + 1 == open;
+            let visits = |turns: u32| (0..turns).filter(|&turn| tried(turn)).count();
             let expected: Vec<(u32, bool)> = (0..4 * middles + 1)
                 .map(|turn| {
-                    let to_other = reached(turn) && visits(turn + 1) % 2 == 0;
+                    let to_other = tried(turn) && visits(turn + 1) % 2 == 0;
                     let owner = if to_other { other } else { top };
-                    let next_to_top = reached(turn + 1) && visits(turn + 2) % 2 == 1;
+                    let next_to_top = tried(turn + 1) && visits(turn + 2) % 2 == 1;
                     (owner, owner == top && next_to_top)
                 })
                 .collect();

@@ -197,7 +197,7 @@ class Forms(StreakCase):
 
     def test_lines_side_by_side(self):
         lines = (EXAMPLES / "two-tenants" / "expected.txt").read_text().splitlines()
-        lines[24] = lines[24].replace(" 00000000 00000000 ", " 80000000 00000000 ", 1)
+        lines[25] = "00000000 80000000 00000000 00000000"
         lines[26] = "0000000B 00000000 00000000 00000000"
         status, out, _ = vig("streak", EXAMPLES / "two-tenants", self.text("\n".join(lines) + "\n"), "--ledger", self.ledger)
         self.assertEqual(status, 1)

@@ -80,7 +80,7 @@ outcome p xs = record { trace = xs; log = logFor p xs; state = stateFor p xs }
 abbrev pub Same : Policy → ℕ → List ℕ → List ℕ → Type 0
 Same p l xs ys = SameFrom p l (outcome p xs) (outcome p ys)
 
--- the claim. A list has any length and any trace numbers in it.
+-- the claim. A list has any length and any trace numbers in it. W-201: "A reader of one class's extract must be as blind to others as before."
 abbrev pub Noninterference : Type 0
 Noninterference = (p : Policy) → Accepted p → (l : ℕ) → isClass p l ≡ true → (xs ys : List ℕ) → Agree p l xs ys → Same p l xs ys
 

@@ -4,6 +4,8 @@
 pub mod Queue
 -- of the traversal: where a pointer leads, one induction over its ascents, and that there is always enough to ascend by
 pub mod Traversal
+-- and of what it tries and passes on from
+pub mod Passing
 -- of the lookahead: its one induction, and what an elided turn says of the next
 pub mod Lookahead
 -- of the gaps, and how a last activate is stored
@@ -38,5 +40,5 @@ pub mod PublicCalls
 pub mod Laws
 -- and as `specs/RunLaws.antt` states them
 pub mod RunLaws
--- and as `specs/RoundRobin.antt` states it
+-- and as `specs/RoundRobin.antt` states them
 pub mod RoundRobin

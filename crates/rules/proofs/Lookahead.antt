@@ -1,11 +1,11 @@
--- The laws of the lookahead: its steps, and that it ends before its bound, since it goes on only to covers, which have fewer classes above them. And the elision lemma:
--- where the lookahead reached the owner, the next turn's traversal comes to the owner as well, and ends there or above.
+-- The laws of the lookahead: its steps, and that it ends before its bound, since it goes on only to covers, which have fewer classes above them. The next turn's traversal follows it: where the
+-- lookahead reached the owner, the traversal tries the owner as well, whatever waits, and the other way round where every class waits. Hence the elision lemma: it ends there or above.
 -- Assumes nothing.
 use mathlib.Core.Path.{_≡_, refl, sym, ap, _∙_, subst}
-use mathlib.Core.Logic.{⊎-elim}
+use mathlib.Core.Logic.{inl, ⊎-elim}
 use mathlib.Core.Bool.{true, false, not, _&&_}
 use mathlib.Core.List.{List}
-use Prim.Native.Nat.{ℕ, zero, suc, _≤_}
+use Prim.Native.Nat.{ℕ, zero, suc, _≤_, _<_}
 use native.Mathlib.Nat.{not-suc-le-zero, lt-of-le-of-lt, lt-irrefl, le-refl, le-of-lt}
 use native.Mathlib.Omega.{arith}
 use borrow.Author.Tests.{eqb-true, eqb-false, eq-eqb, ne-eqb}
@@ -16,14 +16,16 @@ use Rattle.masks.specs.Mask.{member, nth}
 use Rattle.order.specs.Order.{flowsIn, aboveIn}
 use Rattle.policy.specs.Policy.{isClass, flows, above, coversOf, inRange}
 use Rattle.policy.specs.declared.Policy.{Policy}
-use Rattle.basics.proofs.Truth.{either, not-both, and-left, and-right, and-fails-right, or-fails, on-true, on-false}
+use Rattle.basics.proofs.Truth.{either, not-both, and-left, and-right, and-both, and-fails-right, or-left, or-fails, on-true, on-false}
 use Rattle.policy.proofs.Laws.{policy-laws}
-use Rattle.rules.specs.Traversal.{Candidates, candidates, moved, movedPointer, passedAt, named, takesBy, takes, Reached, tryClass}
+use Rattle.rules.specs.Traversal.{Candidates, candidates, moved, movedPointer, passedAt, named, takesBy, takes, Reached, endsAt, tryClass}
 use Rattle.rules.specs.Climb.{Climbs}
 use Rattle.rules.specs.Lookahead.{Ahead, lookingAhead, goesOn, reaches, nextLeft, elides}
 use Rattle.rules.specs.Step.{leftAtStart, ownedBy, startTurn}
 use Rattle.rules.specs.Laws.{Elision}
-use Rattle.rules.proofs.Traversal.{named-covers, try-passes, climbs, first-class, to-cover, ascends}
+use Rattle.rules.specs.RoundRobin.{passesOn, Tries}
+use Rattle.rules.proofs.Traversal.{named-covers, passes-on, try-passes, climbs, first-class, to-cover, ascends}
+use Rattle.rules.proofs.Passing.{on-takes, on-later, first-tried, later-tried, tried-later, taken-tried}
 
 module _ (ahead : Ahead) (owner : ℕ) where
   abbrev next : ℕ → ℕ
@@ -79,7 +81,7 @@ module _ (ahead : Ahead) (owner : ℕ) where
         (λ bound c e f h. reach-fails (suc bound) c e f ∙ sym (reach-fails (suc (suc bound)) c e f))
         (λ bound c e t rest h. reach-on bound c e t ∙ rest (omega (arith, order .falls c (next c) (on-covers c e t))) ∙ sym (reach-on (suc bound) c e t))
 
--- ---- the elision lemma
+-- ---- the next turn's traversal
 
 -- a class with no turns left and a cover passes the turn on, whatever waits
 spent-passes : (all : Candidates) (c : ℕ) → getD (all .left) c 0 ≡ 0 → ((getD (all .covers) c 0 ≡ 0) → ⊥) → takes all c ≡ false
@@ -89,6 +91,17 @@ spent-passes all c none full =
     (and-fails-right (not (eqb (getD (all .lengths) c 0) 0)) (not (eqb (getD (all .left) c 0) 0)) (ap not (eq-eqb (getD (all .left) c 0) 0 none)))
     (ne-eqb (getD (all .covers) c 0) 0 full)
 
+-- and one that waits and passes the turn on has none left
+passes-spent : (all : Candidates) (c : ℕ) → ((getD (all .lengths) c 0 ≡ 0) → ⊥) → takes all c ≡ false → eqb (getD (all .left) c 0) 0 ≡ true
+unfolding takes takesBy
+passes-spent all c waits t =
+    let idle = eqb (getD (all .lengths) c 0) 0 in
+    let spent = eqb (getD (all .left) c 0) 0 in
+    ⊎-elim (λ e. e)
+    (λ e.
+    absurd (not-both (or-left (not idle && not spent) (eqb (getD (all .covers) c 0) 0) (and-both (ap not (ne-eqb (getD (all .lengths) c 0) 0 waits)) (ap not e))) t))
+    (either spent)
+
 module _ (p : Policy) (given : inRange p ≡ true) where
   module _ (lengths left pointers : List ℕ) (owner : ℕ) where
     abbrev all : Candidates
@@ -97,31 +110,98 @@ module _ (p : Policy) (given : inRange p ≡ true) where
     abbrev ahead : Ahead
     ahead = lookingAhead (p .rows) (p .covers) left pointers
 
-    -- the traversal, where its pointers at a class and above are those of the lookahead, follows it to the owner
-    follows : (bound c : ℕ) (moving : List ℕ) → isClass p c ≡ true → ((j : ℕ) → above p j ≤ above p c → getD moving j 0 ≡ getD pointers j 0) → reaches bound ahead owner c ≡ true → flows p owner (tryClass bound all moving c .owner) ≡ true
-    unfolding reaches goesOn flows coversOf named movedPointer passedAt
+    -- the traversal's pointers at a class and above are those of the lookahead
+    abbrev Alike : List ℕ → ℕ → Type 0
+    Alike moving c = (j : ℕ) → above p j ≤ above p c → getD moving j 0 ≡ getD pointers j 0
+
+    -- so it passes on to the class that the lookahead names, and they are alike from there on
+    module _ (moving : List ℕ) (c : ℕ) (full : (getD (p .covers) c 0 ≡ 0) → ⊥) (same : Alike moving c) where
+      abbrev then : ℕ
+      then = named (p .covers) pointers c
+
+      to-then : named (p .covers) moving c ≡ then
+      unfolding named movedPointer
+      to-then = ap (λ (k : ℕ). nth (getD (p .covers) c 0) (moved (getD (p .covers) c 0) k)) (same c (le-refl (above p c)))
+
+      alike-then : Alike (passedAt (p .covers) moving c) then
+      unfolding passedAt coversOf
+      alike-then =
+          let falls = policy-laws p given .higher .falls-to-cover c then (named-covers (p .covers) pointers c (climbs p given .sets c) full) in
+          λ j h.
+          getD-set-other moving c j (movedPointer (p .covers) moving c) 0 (λ i. lt-irrefl (above p c) (lt-of-le-of-lt (subst (λ (x : ℕ). above p x ≤ above p then) i h) falls))
+          ∙ same j (le-of-lt (lt-of-le-of-lt h falls))
+
+    -- it follows the lookahead to the owner
+    pub follows : (bound c : ℕ) (moving : List ℕ) → Alike moving c → reaches bound ahead owner c ≡ true → Tries bound all moving c owner
+    unfolding reaches goesOn tryClass endsAt
     follows =
-        look ahead owner (λ bound c. (moving : List ℕ) → isClass p c ≡ true → ((j : ℕ) → above p j ≤ above p c → getD moving j 0 ≡ getD pointers j 0) → reaches bound ahead owner c ≡ true → flows p owner (tryClass bound all moving c .owner) ≡ true)
-        (λ c moving l same r.
-        subst (λ (o : ℕ). flows p o (tryClass 0 all moving c .owner) ≡ true) (eqb-true c owner r) (ascends p given 0 lengths left moving c l))
-        (λ bound c e moving l same r.
-        subst (λ (o : ℕ). flows p o (tryClass (suc bound) all moving c .owner) ≡ true) (eqb-true c owner e) (ascends p given (suc bound) lengths left moving c l))
-        (λ bound c e f moving l same r. absurd (not-both r (reach-fails ahead owner (suc bound) c e f)))
-        (λ bound c e t rest moving l same r.
-        let then = named (p .covers) pointers c in
+        look ahead owner (λ bound c. (moving : List ℕ) → Alike moving c → reaches bound ahead owner c ≡ true → Tries bound all moving c owner)
+        (λ c moving same r. inl (eqb-true c owner r))
+        (λ bound c e moving same r. subst (Tries (suc bound) all moving c) (eqb-true c owner e) (first-tried all (suc bound) moving c))
+        (λ bound c e f moving same r. absurd (not-both r (reach-fails ahead owner (suc bound) c e f)))
+        (λ bound c e t rest moving same r.
         let full = on-full ahead owner (climbs p given) c e t in
         let spent = eqb-true (getD left c 0) 0 (and-right (flowsIn (p .rows) c owner) (eqb (getD left c 0) 0) t) in
-        let falls = policy-laws p given .higher .falls-to-cover c then (on-covers ahead owner (climbs p given) c e t) in
-        let there : named (p .covers) moving c ≡ then = ap (λ (k : ℕ). nth (getD (p .covers) c 0) (moved (getD (p .covers) c 0) k)) (same c (le-refl (above p c))) in
-        let later = passedAt (p .covers) moving c in
-        let apart : (j : ℕ) → above p j ≤ above p then → (j ≡ c) → ⊥ = λ j h i. lt-irrefl (above p c) (lt-of-le-of-lt (subst (λ (x : ℕ). above p x ≤ above p then) i h) falls) in
-        subst (λ (x : Reached). flows p owner (x .owner) ≡ true)
-        (sym (try-passes all bound moving c (spent-passes all c spent full) ∙ ap (tryClass bound all later) there))
-        (rest later (policy-laws p given .order .to-class c then (to-cover p given pointers c full))
-        (λ j h. getD-set-other moving c j (movedPointer (p .covers) moving c) 0 (apart j h) ∙ same j (le-of-lt (lt-of-le-of-lt h falls)))
-        (sym (reach-on ahead owner bound c e t) ∙ r)))
+        later-tried all bound moving c owner (spent-passes all c spent full)
+        (subst (λ (x : ℕ). Tries bound all (passedAt (p .covers) moving c) x owner) (sym (to-then moving c full same))
+        (rest (passedAt (p .covers) moving c) (alike-then moving c full same) (sym (reach-on ahead owner bound c e t) ∙ r))))
+
+    -- where the lookahead reaches the owner, it comes from a class that may flow to it
+    reach-flows : (bound c : ℕ) → isClass p c ≡ true → reaches bound ahead owner c ≡ true → flows p c owner ≡ true
+    unfolding goesOn flows
+    reach-flows bound c l r =
+        ⊎-elim (λ e. subst (λ (o : ℕ). flows p c o ≡ true) (eqb-true c owner e) (policy-laws p given .order .reflexive c l))
+        (λ e.
+        ⊎-elim (λ t. and-left (flowsIn (p .rows) c owner) (eqb (getD left c 0) 0) t) (λ f. absurd (not-both r (reach-fails ahead owner bound c e f)))
+        (either (goesOn ahead owner c)))
+        (either (eqb c owner))
+
+    -- and where every class waits, the lookahead follows the traversal
+    pub leads : ((c : ℕ) → c < 16 → (getD lengths c 0 ≡ 0) → ⊥) → (bound c : ℕ) (moving : List ℕ) → isClass p c ≡ true → Alike moving c → Tries bound all moving c owner → reaches bound ahead owner c ≡ true
+    unfolding reaches goesOn passesOn tryClass endsAt flows
+    leads waits zero c moving l same h = ⊎-elim (eq-eqb c owner) (λ o. absurd (not-both o refl)) h
+    leads waits (suc bound) c moving l same h =
+        let order = policy-laws p given .order in
+        ⊎-elim (reach-here ahead owner (suc bound) c)
+        (λ e.
+        ⊎-elim (λ t. absurd (eqb-false c owner e (taken-tried all (suc bound) moving c owner t h)))
+        (λ t.
+        let full = passes-on all c t in
+        let then = named (p .covers) pointers c in
+        let step = to-cover p given pointers c full in
+        let there = order .to-class c then step in
+        let rest : reaches bound ahead owner then ≡ true =
+        leads waits bound then (passedAt (p .covers) moving c) there (alike-then moving c full same)
+        (subst (λ (x : ℕ). Tries bound all (passedAt (p .covers) moving c) x owner) (to-then moving c full same) (tried-later all bound moving c owner t e h))
+        in
+        let on : goesOn ahead owner c ≡ true = and-both (order .transitive c then owner step (reach-flows bound then there rest)) (passes-spent all c (waits c (order .class-small c l)) t) in
+        reach-on ahead owner bound c e on ∙ rest)
+        (either (takes all c)))
+        (either (eqb c owner))
+
+    -- ---- the elision lemma
+
+    -- it ends at each class that it passes on from, or above
+    ends-above : (bound : ℕ) (moving : List ℕ) (c : ℕ) → isClass p c ≡ true → passesOn bound all moving c owner ≡ true → flows p owner (tryClass bound all moving c .owner) ≡ true
+    unfolding passesOn
+    ends-above zero moving c l h = absurd (not-both h refl)
+    ends-above (suc bound) moving c l h =
+        ⊎-elim (λ e. subst (λ (o : ℕ). flows p o (tryClass (suc bound) all moving c .owner) ≡ true) (eqb-true c owner e) (ascends p given (suc bound) lengths left moving c l))
+        (λ e.
+        ⊎-elim (λ t. absurd (not-both h (on-takes all (suc bound) moving c owner t)))
+        (λ t.
+        subst (λ (r : Reached). flows p owner (r .owner) ≡ true) (sym (try-passes all bound moving c t))
+        (ends-above bound (passedAt (p .covers) moving c) (named (p .covers) moving c)
+        (policy-laws p given .order .to-class c (named (p .covers) moving c) (to-cover p given moving c (passes-on all c t)))
+        (on-later all bound moving c owner t e h)))
+        (either (takes all c)))
+        (either (eqb c owner))
 
   pub elision : Elision p
   unfolding elides nextLeft startTurn ownedBy leftAtStart
   elision k left pointers owner l e lengths =
-      follows lengths (nextLeft p k left) pointers owner 16 _ pointers (first-class p given _) (λ j h. refl) e
+      let order = policy-laws p given .order in
+      ⊎-elim
+      (λ o. subst (λ (x : ℕ). flows p owner x ≡ true) (sym o) (order .reflexive owner l))
+      (ends-above lengths (nextLeft p k left) pointers owner 16 pointers _ (first-class p given _))
+      (follows lengths (nextLeft p k left) pointers owner 16 _ pointers (λ j h. refl) e)

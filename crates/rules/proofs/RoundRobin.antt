@@ -1,13 +1,14 @@
--- W-201's round robin holds of every policy in range: a traversal only rises, so it passes on from a class once at most, and each class's pointer moves by one for each turn that the class passes on.
+-- W-201's promises hold of every policy in range: a traversal only rises, so it passes on from a class once at most, and each class's pointer moves by one for each turn that the class passes on; and the next turn's
+-- traversal follows the trial walk.
 -- Assumes nothing.
 use mathlib.Core.Path.{_≡_, refl, sym, ap, _∙_, subst}
 use mathlib.Core.Logic.{_⊎_, inl, inr, ⊎-elim}
 use mathlib.Core.Bool.{Bool, true, false, cond, _&&_, _||_}
 use mathlib.Core.List.{List, [], _∷_}
-use Prim.Native.Nat.{ℕ, zero, suc, _+_, _-_, _^_, _%_, _≤_, _<_}
+use Prim.Native.Nat.{ℕ, zero, suc, _+_, _-_, _^_, _%_, _<_}
 use native.Mathlib.Nat.{lt-irrefl, mod-lt, zero-mod}
 use native.Mathlib.Omega.{arith}
-use borrow.Author.Tests.{eqb-true, eqb-false, eq-eqb, ne-eqb, lt-ltb, le-ltb}
+use borrow.Author.Tests.{eqb-true, eqb-false, ne-eqb, lt-ltb, le-ltb}
 use lib.Dec.{ltb, eqb}
 use lib.ListN.{length, getD, length-set}
 use lib.Seq.{getD-set-same, getD-set-other}
@@ -16,7 +17,7 @@ use Rattle.order.specs.Order.{aboveIn}
 use Rattle.policy.specs.Policy.{coversOf, coverCount}
 use Rattle.policy.specs.Policy.{inRange as policyInRange}
 use Rattle.policy.specs.declared.Policy.{Policy}
-use Rattle.basics.proofs.Truth.{either, not-both, and-left, and-right, and-both, or-left, or-right, or-fails, or-cases, on-true, on-false}
+use Rattle.basics.proofs.Truth.{either, not-both, and-left, and-right, and-both, and-fails-right, on-true, on-false}
 use Rattle.basics.proofs.Below.{lt-or-ge}
 use Rattle.requests.specs.Sizes.{lastCycle}
 use Rattle.requests.specs.Trace.{callOf}
@@ -25,14 +26,18 @@ use Rattle.requests.specs.declared.Call.the-variants.{Tick, Offer, Malformed}
 use Rattle.state.specs.Fresh.{stateAtStart, freshState}
 use Rattle.state.specs.Range.{inRange}
 use Rattle.state.specs.declared.State.{State}
+use Rattle.state.specs.declared.Turns.{Turns}
 use Rattle.state.specs.declared.Offered.{Offered}
 use Rattle.state.specs.declared.Ticked.{Ticked}
 use Rattle.rules.specs.Traversal.{firstClass, Candidates, candidates, moved, movedPointer, passedAt, named, takes, Reached, endsAt, tryClass}
+use Rattle.rules.specs.Lookahead.{nextLeft, elides}
 use Rattle.rules.specs.Step.{turnStarts, turnNumber, leftAtStart, turnWord, TurnStart, ownedBy, startTurn, turnsAt}
-use Rattle.rules.specs.Call.{offerOn, offer, afterTick, tick}
+use Rattle.rules.specs.Call.{offerOn, afterTick, tick}
 use Rattle.rules.specs.Calls.{Answer, ticked, answer, answerTo, stateAfter}
-use Rattle.rules.specs.RoundRobin.{passesOn, passesTo, seenAt, triedFirst, tickStarts, tickPasses, tickPassesTo, Shows, callPasses, passedTurns, inTurn, RoundRobin}
-use Rattle.rules.proofs.Traversal.{moved-names, passes-on, try-takes, try-passes, falls, climbs}
+use Rattle.rules.specs.RoundRobin.{passesOn, passesTo, seenAt, triedFirst, tickStarts, tickPasses, tickPassesTo, turnsAfter, Shows, callPasses, passedTurns, inTurn, RoundRobin, Tries, TriesOwner, TrialFollows}
+use Rattle.rules.proofs.Traversal.{moved-names, try-takes, try-passes, falls, climbs, first-class}
+use Rattle.rules.proofs.Passing.{on-takes, on-passes, to-passes, on-later, first-tried, next-tried, passes-full, never-back, owner-keeps}
+use Rattle.rules.proofs.Lookahead.{follows, leads}
 use Rattle.rules.proofs.Range.{ranged, in-range}
 use Rattle.rules.proofs.Call.{offer-is, tick-is, tick-late}
 use Rattle.rules.proofs.SingleCalls.{tick-called}
@@ -84,40 +89,8 @@ module _ (p : Policy) (given : policyInRange p ≡ true) where
     abbrev next : List ℕ → ℕ → ℕ
     next pointers from = named (p .covers) pointers from
 
-    on-takes : (bound : ℕ) (pointers : List ℕ) (from c : ℕ) → takes all from ≡ true → passesOn bound all pointers from c ≡ false
-    unfolding passesOn
-    on-takes zero pointers from c t = refl
-    on-takes (suc bound) pointers from c t = on-true (takes all from) _ _ t
-
-    on-passes : (bound : ℕ) (pointers : List ℕ) (from c : ℕ) → takes all from ≡ false → passesOn (suc bound) all pointers from c ≡ (eqb from c || passesOn bound all (after pointers from) (next pointers from) c)
-    unfolding passesOn
-    on-passes bound pointers from c t = on-false (takes all from) _ _ t
-
-    -- where it passes on from another class than c, what it does about c is what it does from there on
-    to-passes : (bound : ℕ) (pointers : List ℕ) (from c : ℕ) → takes all from ≡ false → passesTo (suc bound) all pointers from c ≡ cond (eqb from c) (next pointers from) (passesTo bound all (after pointers from) (next pointers from) c)
-    unfolding passesTo
-    to-passes bound pointers from c t = on-false (takes all from) _ _ t
-
-    on-later : (bound : ℕ) (pointers : List ℕ) (from c : ℕ) → takes all from ≡ false → eqb from c ≡ false → passesOn (suc bound) all pointers from c ≡ true → passesOn bound all (after pointers from) (next pointers from) c ≡ true
-    on-later bound pointers from c t e h =
-        let later = passesOn bound all (after pointers from) (next pointers from) c in
-        sym (ap (λ (b : Bool). b || later) e) ∙ sym (on-passes bound pointers from c t) ∙ h
-
     fewer : (pointers : List ℕ) (from : ℕ) → takes all from ≡ false → aboveIn (p .rows) (next pointers from) < aboveIn (p .rows) from
     fewer pointers from t = falls all (p .rows) (climbs p given) pointers from t
-
-    -- it never passes on from a class that has more above it than where it is
-    never-back : (bound : ℕ) (pointers : List ℕ) (from c : ℕ) → aboveIn (p .rows) from < aboveIn (p .rows) c → passesOn bound all pointers from c ≡ false
-    unfolding passesOn
-    never-back zero pointers from c l = refl
-    never-back (suc bound) pointers from c l =
-        ⊎-elim (on-takes (suc bound) pointers from c)
-        (λ t.
-        on-passes bound pointers from c t
-        ∙ or-fails (eqb from c) (passesOn bound all (after pointers from) (next pointers from) c)
-        (ne-eqb from c (λ e. lt-irrefl (aboveIn (p .rows) c) (subst (λ (x : ℕ). aboveIn (p .rows) x < aboveIn (p .rows) c) e l)))
-        (never-back bound (after pointers from) (next pointers from) c (omega (arith, fewer pointers from t, l))))
-        (either (takes all from))
 
     -- a pointer elsewhere stays
     beside : (pointers : List ℕ) (from c : ℕ) → eqb from c ≡ false → getD (after pointers from) c 0 ≡ getD pointers c 0
@@ -138,7 +111,7 @@ module _ (p : Policy) (given : policyInRange p ≡ true) where
     pointer-after (suc bound) pointers from c long small =
         let now : Bool → ℕ = λ b. cond b (movedPointer (p .covers) pointers c) (getD pointers c 0) in
         ⊎-elim
-        (λ t. ap (λ (r : Reached). getD (r .pointers) c 0) (try-takes all (suc bound) pointers from t) ∙ sym (ap now (on-takes (suc bound) pointers from c t)))
+        (λ t. ap (λ (r : Reached). getD (r .pointers) c 0) (try-takes all (suc bound) pointers from t) ∙ sym (ap now (on-takes all (suc bound) pointers from c t)))
         (λ t.
         let later = passesOn bound all (after pointers from) (next pointers from) c in
         ap (λ (r : Reached). getD (r .pointers) c 0) (try-passes all bound pointers from t)
@@ -146,7 +119,7 @@ module _ (p : Policy) (given : policyInRange p ≡ true) where
         ∙ ⊎-elim
         (λ e.
         let same = eqb-true from c e in
-        let none : later ≡ false = never-back bound (after pointers from) (next pointers from) c (subst (λ (x : ℕ). aboveIn (p .rows) (next pointers from) < aboveIn (p .rows) x) same (fewer pointers from t)) in
+        let none : later ≡ false = never-back all (p .rows) (climbs p given) bound (after pointers from) (next pointers from) c (subst (λ (x : ℕ). aboveIn (p .rows) (next pointers from) < aboveIn (p .rows) x) same (fewer pointers from t)) in
         ap (λ (b : Bool). cond b (movedPointer (p .covers) (after pointers from) c) (getD (after pointers from) c 0)) none
         ∙ subst (λ (x : ℕ). getD (after pointers from) x 0 ≡ movedPointer (p .covers) pointers x) same (here pointers from long (subst (λ (x : ℕ). x < 16) (sym same) small))
         ∙ sym (ap (λ (b : Bool). now (b || later)) e))
@@ -154,7 +127,7 @@ module _ (p : Policy) (given : policyInRange p ≡ true) where
         ap (λ (v : ℕ). cond later (moved (getD (p .covers) c 0) v) v) (beside pointers from c e)
         ∙ sym (ap (λ (b : Bool). now (b || later)) e))
         (either (eqb from c))
-        ∙ sym (ap now (on-passes bound pointers from c t)))
+        ∙ sym (ap now (on-passes all bound pointers from c t)))
         (either (takes all from))
 
     -- where it passes on from a class, the class that it then tries is the one that the moved pointer names
@@ -163,67 +136,17 @@ module _ (p : Policy) (given : policyInRange p ≡ true) where
     passes-named zero pointers from c h = absurd (not-both h refl)
     passes-named (suc bound) pointers from c h =
         ⊎-elim
-        (λ t. absurd (not-both h (on-takes (suc bound) pointers from c t)))
+        (λ t. absurd (not-both h (on-takes all (suc bound) pointers from c t)))
         (λ t.
         let onward = passesTo bound all (after pointers from) (next pointers from) c in
-        to-passes bound pointers from c t
+        to-passes all bound pointers from c t
         ∙ ⊎-elim
         (λ e. ap (λ (b : Bool). cond b (next pointers from) onward) e ∙ ap (next pointers) (eqb-true from c e))
         (λ e.
         ap (λ (b : Bool). cond b (next pointers from) onward) e
-        ∙ passes-named bound (after pointers from) (next pointers from) c (on-later bound pointers from c t e h)
+        ∙ passes-named bound (after pointers from) (next pointers from) c (on-later all bound pointers from c t e h)
         ∙ ap (λ (v : ℕ). nth (getD (p .covers) c 0) (moved (getD (p .covers) c 0) v)) (beside pointers from c e))
         (either (eqb from c)))
-        (either (takes all from))
-
-    -- a class owns the turn or is passed on from
-    abbrev Ends : ℕ → List ℕ → ℕ → ℕ → Type 0
-    Ends bound pointers from d = (tryClass bound all pointers from .owner ≡ d) ⊎ (passesOn bound all pointers from d ≡ true)
-
-    -- the class that it starts at
-    pub first-ends : (bound : ℕ) (pointers : List ℕ) (from : ℕ) → Ends bound pointers from from
-    unfolding tryClass endsAt
-    first-ends zero pointers from = inl refl
-    first-ends (suc bound) pointers from =
-        ⊎-elim
-        (λ t. inl (ap (λ (r : Reached). r .owner) (try-takes all (suc bound) pointers from t)))
-        (λ t. inr (on-passes bound pointers from from t ∙ or-left (eqb from from) _ (eq-eqb from from refl)))
-        (either (takes all from))
-
-    -- and each class that it passes the turn on to
-    pub next-ends : (bound : ℕ) (pointers : List ℕ) (from c : ℕ) → passesOn bound all pointers from c ≡ true → Ends bound pointers from (passesTo bound all pointers from c)
-    unfolding passesOn
-    next-ends zero pointers from c h = absurd (not-both h refl)
-    next-ends (suc bound) pointers from c h =
-        ⊎-elim
-        (λ t. absurd (not-both h (on-takes (suc bound) pointers from c t)))
-        (λ t.
-        let rest : (d : ℕ) → Ends bound (after pointers from) (next pointers from) d → Ends (suc bound) pointers from d =
-        λ d.
-        ⊎-elim
-        (λ o. inl (ap (λ (r : Reached). r .owner) (try-passes all bound pointers from t) ∙ o))
-        (λ o. inr (on-passes bound pointers from d t ∙ or-right (eqb from d) _ o))
-        in
-        let onward = passesTo bound all (after pointers from) (next pointers from) c in
-        let to : (b : Bool) → eqb from c ≡ b → passesTo (suc bound) all pointers from c ≡ cond b (next pointers from) onward = λ b e. to-passes bound pointers from c t ∙ ap (λ (x : Bool). cond x (next pointers from) onward) e in
-        ⊎-elim
-        (λ e. subst (Ends (suc bound) pointers from) (sym (to true e)) (rest (next pointers from) (first-ends bound (after pointers from) (next pointers from))))
-        (λ e. subst (Ends (suc bound) pointers from) (sym (to false e)) (rest onward (next-ends bound (after pointers from) (next pointers from) c (on-later bound pointers from c t e h))))
-        (either (eqb from c)))
-        (either (takes all from))
-
-    -- a class that it passes on from has a child
-    pub passes-full : (bound : ℕ) (pointers : List ℕ) (from c : ℕ) → passesOn bound all pointers from c ≡ true → getD (p .covers) c 0 ≡ 0 → ⊥
-    unfolding passesOn
-    passes-full zero pointers from c h none = not-both h refl
-    passes-full (suc bound) pointers from c h none =
-        ⊎-elim
-        (λ t. not-both h (on-takes (suc bound) pointers from c t))
-        (λ t.
-        ⊎-elim
-        (λ e. passes-on all from t (ap (λ (x : ℕ). getD (p .covers) x 0) (eqb-true from c e) ∙ none))
-        (λ later. passes-full bound (after pointers from) (next pointers from) c later none)
-        (or-cases (eqb from c) (passesOn bound all (after pointers from) (next pointers from) c) (sym (on-passes bound pointers from c t) ∙ h)))
         (either (takes all from))
 
   -- ---- one call
@@ -270,7 +193,7 @@ module _ (p : Policy) (given : policyInRange p ≡ true) where
     call-full : (t : Call) → callPasses p s t c ≡ true → coversOf p c ≡ 0 → ⊥
     unfolding callPasses tickPasses coversOf
     call-full Tick h none =
-        passes-full (s .queues .lengths) (leftAtStart p number (s .turns .left)) 16 (s .turns .pointers) (firstClass p number) c
+        passes-full (seenAt p s) 16 (s .turns .pointers) (firstClass p number) c
         (and-right (tickStarts p s) _ h)
         none
     call-full (Offer r) h none = not-both h refl
@@ -311,9 +234,49 @@ module _ (p : Policy) (given : policyInRange p ≡ true) where
         (subst start (sym (on-true (turnStarts p (s .cycle)) _ _ begins)) shown)
 
     -- from the traversal to the log
-    seen : tickStarts p s ≡ true → (d : ℕ) → (owner ≡ d) ⊎ (passesOn 16 (seenAt p s) (s .turns .pointers) (triedFirst p s) d ≡ true) → Shows p s d ⊎ (tickPasses p s d ≡ true)
+    seen : tickStarts p s ≡ true → (d : ℕ) → Tries 16 (seenAt p s) (s .turns .pointers) (triedFirst p s) d → Shows p s d ⊎ (tickPasses p s d ≡ true)
     unfolding tickPasses
     seen h d = ⊎-elim (λ o. inl (owner-shown h d o)) (λ o. inr (and-both h o))
+
+    -- and back: the owner is the class that is shown, and has not passed the turn on
+    shown-stays : tickStarts p s ≡ true → (d : ℕ) → Shows p s d → tickPasses p s d ≡ false
+    unfolding tickPasses turnWord
+    shown-stays h d shows =
+        let same : owner ≡ d = omega (arith, sym (owner-shown h owner refl) ∙ shows) in
+        and-fails-right (tickStarts p s) _
+        (subst (λ (c : ℕ). passesOn 16 (seenAt p s) (s .turns .pointers) (triedFirst p s) c ≡ false) same
+        (owner-keeps (seenAt p s) (p .rows) (climbs p given) 16 (s .turns .pointers) (triedFirst p s)))
+
+    -- ---- the trial walk
+
+    abbrev started : Turns
+    started = startTurn p (turnNumber p (s .cycle)) (s .queues .lengths) (s .turns .left) (s .turns .pointers) .turns
+
+    turns-started : tickStarts p s ≡ true → turnsAfter p s ≡ started
+    unfolding afterTick turnsAt
+    turns-started h =
+        let begins = and-right (ltb (s .cycle) lastCycle) (turnStarts p (s .cycle)) h in
+        ap (λ (a : Answer). a .state .turns) (tick-called p s ∙ ap ticked (tick-is p s fits (and-left (ltb (s .cycle) lastCycle) (turnStarts p (s .cycle)) h)))
+        ∙ ap (λ (t : TurnStart). t .turns) (on-true (turnStarts p (s .cycle)) _ _ begins)
+
+    trial-dropped : tickStarts p s ≡ true → turnsAfter p s .elided ≡ true → (lengths : List ℕ) → TriesOwner p (turnNumber p (s .cycle) + 1) (turnsAfter p s) lengths
+    unfolding elides nextLeft startTurn ownedBy leftAtStart
+    trial-dropped h e lengths =
+        let k = turnNumber p (s .cycle) in
+        let same = turns-started h in
+        subst (λ (t : Turns). TriesOwner p (k + 1) t lengths) (sym same)
+        (follows p given lengths (nextLeft p k (started .left)) (started .pointers) (started .owner) 16 (firstClass p (k + 1)) (started .pointers) (λ j b. refl)
+        (sym (ap (λ (t : Turns). t .elided) same) ∙ e))
+
+    trial-kept : tickStarts p s ≡ true → turnsAfter p s .elided ≡ false → (lengths : List ℕ) → ((c : ℕ) → c < 16 → (getD lengths c 0 ≡ 0) → ⊥) → TriesOwner p (turnNumber p (s .cycle) + 1) (turnsAfter p s) lengths → ⊥
+    unfolding elides nextLeft startTurn ownedBy leftAtStart
+    trial-kept h e lengths waits tries =
+        let k = turnNumber p (s .cycle) in
+        let same = turns-started h in
+        not-both
+        (leads p given lengths (nextLeft p k (started .left)) (started .pointers) (started .owner) waits 16 (firstClass p (k + 1)) (started .pointers) (first-class p given (k + 1)) (λ j b. refl)
+        (subst (λ (t : Turns). TriesOwner p (k + 1) t lengths) same tries))
+        (sym (ap (λ (t : Turns). t .elided) same) ∙ e)
 
   -- ---- a list of calls
 
@@ -339,7 +302,7 @@ module _ (p : Policy) (given : policyInRange p ≡ true) where
   unfolding tickPasses tickPassesTo named movedPointer coverCount coversOf
   round-robin =
       record {
-        moves = λ lengths left pointers from c long small. pointer-after lengths left 16 pointers from c long small;
+        moves = λ s fits c small. ap (λ (a : Answer). getD (a .state .turns .pointers) c 0) (tick-called p s) ∙ tick-moves s fits c small;
         pointer = pointer-turn;
         goes =
             λ ws c small h.
@@ -352,12 +315,13 @@ module _ (p : Policy) (given : policyInRange p ≡ true) where
             ∙ ap (λ (v : ℕ). nth (getD (p .covers) c 0) (moved (getD (p .covers) c 0) v)) (pointer-turn ws c small)
             ∙ ap (nth (getD (p .covers) c 0))
             (next-turn (getD (p .covers) c 0) (passedTurns p (freshState p) ws c) (climbs p given .sets c)
-            (passes-full lengths left 16 (s .turns .pointers) (firstClass p number) c passed));
-        starts =
-            λ s fits h.
-            seen s fits h (triedFirst p s) (first-ends (s .queues .lengths) (seenAt p s .left) 16 (s .turns .pointers) (triedFirst p s));
+            (passes-full (seenAt p s) 16 (s .turns .pointers) (firstClass p number) c passed));
+        starts = λ s fits h. seen s fits h (triedFirst p s) (first-tried (seenAt p s) 16 (s .turns .pointers) (triedFirst p s));
         ends =
             λ s fits c h.
-            seen s fits (and-left (tickStarts p s) _ h) (tickPassesTo p s c)
-            (next-ends (s .queues .lengths) (seenAt p s .left) 16 (s .turns .pointers) (triedFirst p s) c (and-right (tickStarts p s) _ h));
+            seen s fits (and-left (tickStarts p s) _ h) (tickPassesTo p s c) (next-tried (seenAt p s) 16 (s .turns .pointers) (triedFirst p s) c (and-right (tickStarts p s) _ h));
+        stays = shown-stays;
       }
+
+  pub trial-follows : TrialFollows p
+  trial-follows = record { dropped = trial-dropped; kept = trial-kept }

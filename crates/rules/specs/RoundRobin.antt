@@ -1,11 +1,11 @@
--- W-201: of the turns that a class passes on, each of its children is named in turn. Said of one turn's start, and of every list of calls from a fresh state.
+-- W-201's promises: of the turns that a class passes on, each of its children is named in turn; and "The trial walk follows."
 use mathlib.Core.Path.{_≡_}
 use mathlib.Core.Logic.{_⊎_}
 use mathlib.Core.Bool.{Bool, true, false, cond, _&&_, _||_}
 use mathlib.Core.List.{List, [], _∷_}
 use Prim.Native.Nat.{ℕ, zero, suc, _+_, _-_, _%_, _<_}
 use lib.Dec.{ltb, eqb}
-use lib.ListN.{length, getD}
+use lib.ListN.{getD}
 use Rattle.masks.specs.Mask.{nth}
 use Rattle.policy.specs.Policy.{coversOf, coverCount}
 use Rattle.policy.specs.declared.Policy.{Policy}
@@ -16,6 +16,7 @@ use Rattle.requests.specs.declared.Call.the-variants.{Tick, Offer, Malformed}
 use Rattle.state.specs.Fresh.{freshState}
 use Rattle.state.specs.Range.{inRange}
 use Rattle.state.specs.declared.State.{State}
+use Rattle.state.specs.declared.Turns.{Turns}
 use Rattle.rules.specs.Traversal.{firstClass, Candidates, candidates, movedPointer, passedAt, named, takes, tryClass}
 use Rattle.rules.specs.Step.{turnStarts, turnNumber, leftAtStart, turnWord}
 use Rattle.rules.specs.Calls.{answerTo, stateAfter}
@@ -62,9 +63,13 @@ tickPasses p s c = tickStarts p s && passesOn 16 (seenAt p s) (s .turns .pointer
 unfoldable pub tickPassesTo : Policy → State → ℕ → ℕ
 tickPassesTo p s c = passesTo 16 (seenAt p s) (s .turns .pointers) (triedFirst p s) c
 
+-- the turns as the tick leaves them
+abbrev pub turnsAfter : Policy → State → Turns
+turnsAfter p s = answerTo p s 0 .state .turns
+
 -- the tick's turn number in the log is that of a class
 abbrev pub Shows : Policy → State → ℕ → Type 0
-Shows p s c = answerTo p s 0 .turn ≡ turnWord c (answerTo p s 0 .state .turns .elided)
+Shows p s c = answerTo p s 0 .turn ≡ turnWord c (turnsAfter p s .elided)
 
 -- ---- a list of calls
 
@@ -85,16 +90,36 @@ inTurn children m = cond (eqb m 0) 0 ((m - 1) % children + 1)
 
 -- of every policy in range
 pub record RoundRobin (p : Policy) : Type 0 where
-  -- W-201: "a mark moves only when the walk passes on from the class": after a traversal a class's pointer is the moved one if the traversal passed on from it, and else what it was
-  pub moves : (lengths left pointers : List ℕ) (from c : ℕ) → length pointers ≡ 16 → c < 16
-      → getD (tryClass 16 (candidates (p .covers) lengths left) pointers from .pointers) c 0
-      ≡ cond (passesOn 16 (candidates (p .covers) lengths left) pointers from c) (movedPointer (p .covers) pointers c) (getD pointers c 0)
+  -- "a mark moves only when the walk passes on from the class": after a tick a class's pointer is the moved one if the tick passed a turn on from it, and else what it was
+  pub moves : (s : State) → inRange p s ≡ true → (c : ℕ) → c < 16
+      → getD (turnsAfter p s .pointers) c 0 ≡ cond (tickPasses p s c) (movedPointer (p .covers) (s .turns .pointers) c) (getD (s .turns .pointers) c 0)
   -- after every list of calls from fresh a class's pointer is the number of the child whose turn it was last, by the count of the turns that the class has passed on
   pub pointer : (ws : List ℕ) (c : ℕ) → c < 16
       → getD (stateAfter p (freshState p) ws .turns .pointers) c 0 ≡ inTurn (coverCount p c) (passedTurns p (freshState p) ws c)
   -- "it moves first and then names the child": the next turn that the class passes on goes to the child with the next number
   pub goes : (ws : List ℕ) (c : ℕ) → c < 16 → tickPasses p (stateAfter p (freshState p) ws) c ≡ true
       → tickPassesTo p (stateAfter p (freshState p) ws) c ≡ nth (coversOf p c) (inTurn (coverCount p c) (passedTurns p (freshState p) ws c + 1))
-  -- and what passing on comes to in the log: the class that is tried first owns the turn or passes it on, and so does each class that the turn is passed on to
+  -- what passing on comes to in the log: the class that is tried first owns the turn or passes it on, and so does each class that the turn is passed on to
   pub starts : (s : State) → inRange p s ≡ true → tickStarts p s ≡ true → Shows p s (triedFirst p s) ⊎ (tickPasses p s (triedFirst p s) ≡ true)
   pub ends : (s : State) → inRange p s ≡ true → (c : ℕ) → tickPasses p s c ≡ true → Shows p s (tickPassesTo p s c) ⊎ (tickPasses p s (tickPassesTo p s c) ≡ true)
+  -- and the class that it shows has not passed the turn on, so its pointer stays
+  pub stays : (s : State) → inRange p s ≡ true → tickStarts p s ≡ true → (c : ℕ) → Shows p s c → tickPasses p s c ≡ false
+
+-- ---- the trial walk
+
+-- the traversal, from a class on, tries class c: it ends there, or passes on from there
+abbrev pub Tries : ℕ → Candidates → List ℕ → ℕ → ℕ → Type 0
+Tries bound all pointers from c = (tryClass bound all pointers from .owner ≡ c) ⊎ (passesOn bound all pointers from c ≡ true)
+
+-- the traversal of turn number k tries the owner of the turn before it, where so many requests wait
+abbrev pub TriesOwner : Policy → ℕ → Turns → List ℕ → Type 0
+TriesOwner p k turns lengths = Tries 16 (candidates (p .covers) lengths (leftAtStart p k (turns .left))) (turns .pointers) (firstClass p k) (turns .owner)
+
+-- "The trial walk follows.", of every policy in range and every turn's start
+pub record TrialFollows (p : Policy) : Type 0 where
+  -- where the dead time is dropped, the next turn's traversal tries the owner, whatever waits by then
+  pub dropped : (s : State) → inRange p s ≡ true → tickStarts p s ≡ true → turnsAfter p s .elided ≡ true
+      → (lengths : List ℕ) → TriesOwner p (turnNumber p (s .cycle) + 1) (turnsAfter p s) lengths
+  -- where it is kept, that traversal does not try the owner if every class has a request waiting by then
+  pub kept : (s : State) → inRange p s ≡ true → tickStarts p s ≡ true → turnsAfter p s .elided ≡ false
+      → (lengths : List ℕ) → ((c : ℕ) → c < 16 → (getD lengths c 0 ≡ 0) → ⊥) → TriesOwner p (turnNumber p (s .cycle) + 1) (turnsAfter p s) lengths → ⊥

@@ -150,12 +150,6 @@ cases =
     (also (from-fresh (readFile (printed 0 2) .policy) fits-printed (0x80010007 ∷ 0 ∷ 0 ∷ 0 ∷ []))
     refl)))))))
 
--- ---- W-201's customer
-
-customer : turnsFrom spare (everySecond 4) ≡ 257 ∷ 2 ∷ 257 ∷ 3 ∷ 257 ∷ 2 ∷ 257 ∷ 3 ∷ []
-unfolding spare turns-computed everySecond
-customer = turns-from spare fits-spare (everySecond 4)
-
 -- ---- (a)
 
 a : (p : Policy) → inRange p ≡ true → p .classes ≡ 1 → (k : ℕ) (lengths left pointers : List ℕ) → (startTurn p k lengths left pointers .turns .owner ≡ 0) × (startTurn p k lengths left pointers .turns .elided ≡ true)
@@ -198,4 +192,5 @@ e p given k lengths left pointers nobody =
     idle-ends p given lengths (leftAtStart p k left) nobody 16 pointers (firstClass p k) (le-of-lt (policy-laws p given .higher .few (firstClass p k)))
 
 pub worked-turns : WorkedTurns
-worked-turns = record { cases = cases; customer = customer; a = a; e = e }
+unfolding spare turns-computed everySecond
+worked-turns = record { cases = cases; customer = turns-from spare fits-spare (everySecond 4); a = a; e = e }

@@ -222,16 +222,19 @@ module _ (p : Policy) (given : policyInRange p ≡ true) where
     abbrev owner : ℕ
     owner = tryClass 16 (seenAt p s) (s .turns .pointers) (triedFirst p s) .owner
 
+    abbrev started : TurnStart
+    started = startTurn p (turnNumber p (s .cycle)) (s .queues .lengths) (s .turns .left) (s .turns .pointers)
+
+    -- what holds of a turn's start holds of the tick's turns and its turn number
+    at-start : tickStarts p s ≡ true → (P : Turns → ℕ → Type 0) → P (started .turns) (started .shown) → P (turnsAfter p s) (answerTo p s 0 .turn)
+    unfolding afterTick turnsAt
+    at-start h P holds =
+        subst (λ (a : Answer). P (a .state .turns) (a .turn)) (sym (tick-called p s ∙ ap ticked (tick-is p s fits (and-left (ltb (s .cycle) lastCycle) (turnStarts p (s .cycle)) h))))
+        (subst (λ (t : TurnStart). P (t .turns) (t .shown)) (sym (on-true (turnStarts p (s .cycle)) _ _ (and-right (ltb (s .cycle) lastCycle) (turnStarts p (s .cycle)) h))) holds)
+
     owner-shown : tickStarts p s ≡ true → (d : ℕ) → owner ≡ d → Shows p s d
-    unfolding afterTick turnsAt startTurn ownedBy
-    owner-shown h d o =
-        let begins = and-right (ltb (s .cycle) lastCycle) (turnStarts p (s .cycle)) h in
-        let here : Answer → Type 0 = λ a. a .turn ≡ turnWord d (a .state .turns .elided) in
-        let start : TurnStart → Type 0 = λ t. t .shown ≡ turnWord d (t .turns .elided) in
-        let started = startTurn p (turnNumber p (s .cycle)) (s .queues .lengths) (s .turns .left) (s .turns .pointers) in
-        let shown : start started = ap (λ (x : ℕ). turnWord x (started .turns .elided)) o in
-        subst here (sym (tick-called p s ∙ ap ticked (tick-is p s fits (and-left (ltb (s .cycle) lastCycle) (turnStarts p (s .cycle)) h))))
-        (subst start (sym (on-true (turnStarts p (s .cycle)) _ _ begins)) shown)
+    unfolding startTurn ownedBy
+    owner-shown h d o = at-start h (λ turns shown. shown ≡ turnWord d (turns .elided)) (ap (λ (x : ℕ). turnWord x (started .turns .elided)) o)
 
     -- from the traversal to the log
     seen : tickStarts p s ≡ true → (d : ℕ) → Tries 16 (seenAt p s) (s .turns .pointers) (triedFirst p s) d → Shows p s d ⊎ (tickPasses p s d ≡ true)
@@ -249,34 +252,22 @@ module _ (p : Policy) (given : policyInRange p ≡ true) where
 
     -- ---- the trial walk
 
-    abbrev started : Turns
-    started = startTurn p (turnNumber p (s .cycle)) (s .queues .lengths) (s .turns .left) (s .turns .pointers) .turns
-
-    turns-started : tickStarts p s ≡ true → turnsAfter p s ≡ started
-    unfolding afterTick turnsAt
-    turns-started h =
-        let begins = and-right (ltb (s .cycle) lastCycle) (turnStarts p (s .cycle)) h in
-        ap (λ (a : Answer). a .state .turns) (tick-called p s ∙ ap ticked (tick-is p s fits (and-left (ltb (s .cycle) lastCycle) (turnStarts p (s .cycle)) h)))
-        ∙ ap (λ (t : TurnStart). t .turns) (on-true (turnStarts p (s .cycle)) _ _ begins)
-
     trial-dropped : tickStarts p s ≡ true → turnsAfter p s .elided ≡ true → (lengths : List ℕ) → TriesOwner p (turnNumber p (s .cycle) + 1) (turnsAfter p s) lengths
     unfolding elides nextLeft startTurn ownedBy leftAtStart
-    trial-dropped h e lengths =
+    trial-dropped h =
         let k = turnNumber p (s .cycle) in
-        let same = turns-started h in
-        subst (λ (t : Turns). TriesOwner p (k + 1) t lengths) (sym same)
-        (follows p given lengths (nextLeft p k (started .left)) (started .pointers) (started .owner) 16 (firstClass p (k + 1)) (started .pointers) (λ j b. refl)
-        (sym (ap (λ (t : Turns). t .elided) same) ∙ e))
+        at-start h (λ turns shown. turns .elided ≡ true → (lengths : List ℕ) → TriesOwner p (k + 1) turns lengths)
+        (λ e lengths. follows p given lengths (nextLeft p k (started .turns .left)) (started .turns .pointers) (started .turns .owner) 16 (firstClass p (k + 1)) (started .turns .pointers) (λ j b. refl) e)
 
     trial-kept : tickStarts p s ≡ true → turnsAfter p s .elided ≡ false → (lengths : List ℕ) → ((c : ℕ) → c < 16 → (getD lengths c 0 ≡ 0) → ⊥) → TriesOwner p (turnNumber p (s .cycle) + 1) (turnsAfter p s) lengths → ⊥
     unfolding elides nextLeft startTurn ownedBy leftAtStart
-    trial-kept h e lengths waits tries =
+    trial-kept h =
         let k = turnNumber p (s .cycle) in
-        let same = turns-started h in
+        at-start h (λ turns shown. turns .elided ≡ false → (lengths : List ℕ) → ((c : ℕ) → c < 16 → (getD lengths c 0 ≡ 0) → ⊥) → TriesOwner p (k + 1) turns lengths → ⊥)
+        (λ e lengths waits tries.
         not-both
-        (leads p given lengths (nextLeft p k (started .left)) (started .pointers) (started .owner) waits 16 (firstClass p (k + 1)) (started .pointers) (first-class p given (k + 1)) (λ j b. refl)
-        (subst (λ (t : Turns). TriesOwner p (k + 1) t lengths) same tries))
-        (sym (ap (λ (t : Turns). t .elided) same) ∙ e)
+        (leads p given lengths (nextLeft p k (started .turns .left)) (started .turns .pointers) (started .turns .owner) waits 16 (firstClass p (k + 1)) (started .turns .pointers) (first-class p given (k + 1)) (λ j b. refl) tries)
+        e)
 
   -- ---- a list of calls
 

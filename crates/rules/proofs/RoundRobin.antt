@@ -14,8 +14,7 @@ use lib.ListN.{length, getD, length-set}
 use lib.Seq.{getD-set-same, getD-set-other}
 use Rattle.masks.specs.Mask.{size, nth}
 use Rattle.order.specs.Order.{aboveIn}
-use Rattle.policy.specs.Policy.{coversOf, coverCount}
-use Rattle.policy.specs.Policy.{inRange as policyInRange}
+use Rattle.policy.specs.Policy.{coversOf, coverCount, cover, inRange as policyInRange}
 use Rattle.policy.specs.declared.Policy.{Policy}
 use Rattle.basics.proofs.Truth.{either, not-both, and-left, and-right, and-both, and-fails-right, on-true, on-false}
 use Rattle.basics.proofs.Below.{lt-or-ge}
@@ -89,9 +88,6 @@ module _ (p : Policy) (given : policyInRange p ≡ true) where
     abbrev next : List ℕ → ℕ → ℕ
     next pointers from = named (p .covers) pointers from
 
-    fewer : (pointers : List ℕ) (from : ℕ) → takes all from ≡ false → aboveIn (p .rows) (next pointers from) < aboveIn (p .rows) from
-    fewer pointers from t = falls all (p .rows) (climbs p given) pointers from t
-
     -- a pointer elsewhere stays
     beside : (pointers : List ℕ) (from c : ℕ) → eqb from c ≡ false → getD (after pointers from) c 0 ≡ getD pointers c 0
     unfolding passedAt
@@ -119,7 +115,7 @@ module _ (p : Policy) (given : policyInRange p ≡ true) where
         ∙ ⊎-elim
         (λ e.
         let same = eqb-true from c e in
-        let none : later ≡ false = never-back all (p .rows) (climbs p given) bound (after pointers from) (next pointers from) c (subst (λ (x : ℕ). aboveIn (p .rows) (next pointers from) < aboveIn (p .rows) x) same (fewer pointers from t)) in
+        let none : later ≡ false = never-back all (p .rows) (climbs p given) bound (after pointers from) (next pointers from) c (subst (λ (x : ℕ). aboveIn (p .rows) (next pointers from) < aboveIn (p .rows) x) same (falls all (p .rows) (climbs p given) pointers from t)) in
         ap (λ (b : Bool). cond b (movedPointer (p .covers) (after pointers from) c) (getD (after pointers from) c 0)) none
         ∙ subst (λ (x : ℕ). getD (after pointers from) x 0 ≡ movedPointer (p .covers) pointers x) same (here pointers from long (subst (λ (x : ℕ). x < 16) (sym same) small))
         ∙ sym (ap (λ (b : Bool). now (b || later)) e))
@@ -290,7 +286,7 @@ module _ (p : Policy) (given : policyInRange p ≡ true) where
       list-turn (freshState p) (in-range p (freshState p) (fresh-ranged p given)) c small 0 (fresh-turn c) ws ∙ ap (inTurn (coverCount p c)) none
 
   pub round-robin : RoundRobin p
-  unfolding tickPasses tickPassesTo named movedPointer coverCount coversOf
+  unfolding tickPasses tickPassesTo named movedPointer coverCount cover coversOf
   round-robin =
       record {
         moves = λ s fits c small. ap (λ (a : Answer). getD (a .state .turns .pointers) c 0) (tick-called p s) ∙ tick-moves s fits c small;

@@ -6,8 +6,7 @@ use mathlib.Core.List.{List, [], _∷_}
 use Prim.Native.Nat.{ℕ, zero, suc, _+_, _-_, _%_, _<_}
 use lib.Dec.{ltb, eqb}
 use lib.ListN.{getD}
-use Rattle.masks.specs.Mask.{nth}
-use Rattle.policy.specs.Policy.{coversOf, coverCount}
+use Rattle.policy.specs.Policy.{coverCount, cover}
 use Rattle.policy.specs.declared.Policy.{Policy}
 use Rattle.requests.specs.Sizes.{lastCycle}
 use Rattle.requests.specs.Trace.{callOf}
@@ -98,7 +97,7 @@ pub record RoundRobin (p : Policy) : Type 0 where
       → getD (stateAfter p (freshState p) ws .turns .pointers) c 0 ≡ inTurn (coverCount p c) (passedTurns p (freshState p) ws c)
   -- "it moves first and then names the child": the next turn that the class passes on goes to the child with the next number
   pub goes : (ws : List ℕ) (c : ℕ) → c < 16 → tickPasses p (stateAfter p (freshState p) ws) c ≡ true
-      → tickPassesTo p (stateAfter p (freshState p) ws) c ≡ nth (coversOf p c) (inTurn (coverCount p c) (passedTurns p (freshState p) ws c + 1))
+      → tickPassesTo p (stateAfter p (freshState p) ws) c ≡ cover p c (inTurn (coverCount p c) (passedTurns p (freshState p) ws c + 1))
   -- what passing on comes to in the log: the class that is tried first owns the turn or passes it on, and so does each class that the turn is passed on to
   pub starts : (s : State) → inRange p s ≡ true → tickStarts p s ≡ true → Shows p s (triedFirst p s) ⊎ (tickPasses p s (triedFirst p s) ≡ true)
   pub ends : (s : State) → inRange p s ≡ true → (c : ℕ) → tickPasses p s c ≡ true → Shows p s (tickPassesTo p s c) ⊎ (tickPasses p s (tickPassesTo p s c) ≡ true)

@@ -46,114 +46,44 @@ abbrev try-class-below : ℕ → In 5 try-class-kinds.ps
 try-class-below t =
     and 5 try-class-kinds.ps (falls 5 try-class-kinds.ps _<_ μ-try-class t) try-class.Pre
 
-ascend-mul-moved : (t : ℕ) → ascend-lts.Need-mul-moved (
-  moved-reads.Asked,
-  moved-reads.Learnt,
-  nth-reads.Asked,
-  nth-reads.Learnt,
-  try-class-below t,
-  try-class.Post,
-) (ascend-at t) ascend.Post
+-- what each asks of the functions that it calls and learns of them, the other one among them
+abbrev ascend-claims : ℕ → ascend-lts.Claims
+ascend-claims t = (moved-reads.Asked, moved-reads.Learnt, nth-reads.Asked, nth-reads.Learnt, try-class-below t, try-class.Post)
+
+abbrev try-class-claims : ℕ → try-class-lts.Claims
+try-class-claims t = (takes-reads.Asked, takes-reads.Learnt, ascend-below t, ascend.Post)
+
+ascend-mul-moved : (t : ℕ) → ascend-lts.Need-mul-moved (ascend-claims t) (ascend-at t) ascend.Post
 ascend-mul-moved t c = search needs
 
-ascend-element-copy-out-moved : (t : ℕ) → ascend-lts.Need-element-copy-out-moved (
-  moved-reads.Asked,
-  moved-reads.Learnt,
-  nth-reads.Asked,
-  nth-reads.Learnt,
-  try-class-below t,
-  try-class.Post,
-) (ascend-at t) ascend.Post
+ascend-element-copy-out-moved : (t : ℕ) → ascend-lts.Need-element-copy-out-moved (ascend-claims t) (ascend-at t) ascend.Post
 ascend-element-copy-out-moved t c = search needs
 
-ascend-mul-moved-2 : (t : ℕ) → ascend-lts.Need-mul-moved-2 (
-  moved-reads.Asked,
-  moved-reads.Learnt,
-  nth-reads.Asked,
-  nth-reads.Learnt,
-  try-class-below t,
-  try-class.Post,
-) (ascend-at t) ascend.Post
+ascend-mul-moved-2 : (t : ℕ) → ascend-lts.Need-mul-moved-2 (ascend-claims t) (ascend-at t) ascend.Post
 ascend-mul-moved-2 t c = search needs
 
-ascend-element-copy-out-moved-2 : (t : ℕ) → ascend-lts.Need-element-copy-out-moved-2 (
-  moved-reads.Asked,
-  moved-reads.Learnt,
-  nth-reads.Asked,
-  nth-reads.Learnt,
-  try-class-below t,
-  try-class.Post,
-) (ascend-at t) ascend.Post
+ascend-element-copy-out-moved-2 : (t : ℕ) → ascend-lts.Need-element-copy-out-moved-2 (ascend-claims t) (ascend-at t) ascend.Post
 ascend-element-copy-out-moved-2 t c = search needs
 
-ascend-moved-requires : (t : ℕ) → ascend-lts.Need-moved-requires (
-  moved-reads.Asked,
-  moved-reads.Learnt,
-  nth-reads.Asked,
-  nth-reads.Learnt,
-  try-class-below t,
-  try-class.Post,
-) (ascend-at t) ascend.Post
+ascend-moved-requires : (t : ℕ) → ascend-lts.Need-moved-requires (ascend-claims t) (ascend-at t) ascend.Post
 ascend-moved-requires t c κs = search needs
 
-ascend-mul-pointers : (t : ℕ) → ascend-lts.Need-mul-pointers (
-  moved-reads.Asked,
-  moved-reads.Learnt,
-  nth-reads.Asked,
-  nth-reads.Learnt,
-  try-class-below t,
-  try-class.Post,
-) (ascend-at t) ascend.Post
+ascend-mul-pointers : (t : ℕ) → ascend-lts.Need-mul-pointers (ascend-claims t) (ascend-at t) ascend.Post
 ascend-mul-pointers t c = search needs
 
-ascend-element-write-pointers : (t : ℕ) → ascend-lts.Need-element-write-pointers (
-  moved-reads.Asked,
-  moved-reads.Learnt,
-  nth-reads.Asked,
-  nth-reads.Learnt,
-  try-class-below t,
-  try-class.Post,
-) (ascend-at t) ascend.Post
+ascend-element-write-pointers : (t : ℕ) → ascend-lts.Need-element-write-pointers (ascend-claims t) (ascend-at t) ascend.Post
 ascend-element-write-pointers t c = search needs
 
-ascend-mul-nth : (t : ℕ) → ascend-lts.Need-mul-nth (
-  moved-reads.Asked,
-  moved-reads.Learnt,
-  nth-reads.Asked,
-  nth-reads.Learnt,
-  try-class-below t,
-  try-class.Post,
-) (ascend-at t) ascend.Post
+ascend-mul-nth : (t : ℕ) → ascend-lts.Need-mul-nth (ascend-claims t) (ascend-at t) ascend.Post
 ascend-mul-nth t c = search needs
 
-ascend-element-copy-out-nth : (t : ℕ) → ascend-lts.Need-element-copy-out-nth (
-  moved-reads.Asked,
-  moved-reads.Learnt,
-  nth-reads.Asked,
-  nth-reads.Learnt,
-  try-class-below t,
-  try-class.Post,
-) (ascend-at t) ascend.Post
+ascend-element-copy-out-nth : (t : ℕ) → ascend-lts.Need-element-copy-out-nth (ascend-claims t) (ascend-at t) ascend.Post
 ascend-element-copy-out-nth t c = search needs
 
-ascend-nth-requires : (t : ℕ) → ascend-lts.Need-nth-requires (
-  moved-reads.Asked,
-  moved-reads.Learnt,
-  nth-reads.Asked,
-  nth-reads.Learnt,
-  try-class-below t,
-  try-class.Post,
-) (ascend-at t) ascend.Post
+ascend-nth-requires : (t : ℕ) → ascend-lts.Need-nth-requires (ascend-claims t) (ascend-at t) ascend.Post
 ascend-nth-requires t c κs = search needs
 
-ascend-try-class-requires : (t : ℕ) → ascend-lts.Need-try-class-requires (
-  moved-reads.Asked,
-  moved-reads.Learnt,
-  nth-reads.Asked,
-  nth-reads.Learnt,
-  try-class-below t,
-  try-class.Post,
-) (ascend-at t) ascend.Post
+ascend-try-class-requires : (t : ℕ) → ascend-lts.Need-try-class-requires (ascend-claims t) (ascend-at t) ascend.Post
 unfolding named movedPointer
 ascend-try-class-requires t c κs =
     let at-nth = c .before in
@@ -170,14 +100,7 @@ ascend-try-class-requires t c κs =
     let small = subst (λ (j : ℕ). j < 16) (sym next) (member-small (getD covers class 0) (named covers pointers class) (order .sets class) covered) in
     (omega (arith, s .pre .0, less), (order, small, length-set pointers class (at-moved .moved .result) ∙ s .pre .1 .2))
 
-ascend-returns : (t : ℕ) → ascend-lts.Need-returns (
-  moved-reads.Asked,
-  moved-reads.Learnt,
-  nth-reads.Asked,
-  nth-reads.Learnt,
-  try-class-below t,
-  try-class.Post,
-) (ascend-at t) ascend.Post
+ascend-returns : (t : ℕ) → ascend-lts.Need-returns (ascend-claims t) (ascend-at t) ascend.Post
 unfolding passedAt named movedPointer
 ascend-returns t c =
     let at-nth = c .before .before in
@@ -192,68 +115,28 @@ ascend-returns t c =
     ∙ ap (λ (v : ℕ). tryClass 16 all (set pointers class v) (at-nth .nth .result)) (at-moved .moved .ensures)
     ∙ ap (tryClass 16 all (passedAt covers pointers class)) next
 
-try-class-mul-takes : (t : ℕ) → try-class-lts.Need-mul-takes (
-  takes-reads.Asked,
-  takes-reads.Learnt,
-  ascend-below t,
-  ascend.Post,
-) (try-class-at t) try-class.Post
+try-class-mul-takes : (t : ℕ) → try-class-lts.Need-mul-takes (try-class-claims t) (try-class-at t) try-class.Post
 try-class-mul-takes t c = search needs
 
-try-class-element-copy-out-takes : (t : ℕ) → try-class-lts.Need-element-copy-out-takes (
-  takes-reads.Asked,
-  takes-reads.Learnt,
-  ascend-below t,
-  ascend.Post,
-) (try-class-at t) try-class.Post
+try-class-element-copy-out-takes : (t : ℕ) → try-class-lts.Need-element-copy-out-takes (try-class-claims t) (try-class-at t) try-class.Post
 try-class-element-copy-out-takes t c = search needs
 
-try-class-mul-takes-2 : (t : ℕ) → try-class-lts.Need-mul-takes-2 (
-  takes-reads.Asked,
-  takes-reads.Learnt,
-  ascend-below t,
-  ascend.Post,
-) (try-class-at t) try-class.Post
+try-class-mul-takes-2 : (t : ℕ) → try-class-lts.Need-mul-takes-2 (try-class-claims t) (try-class-at t) try-class.Post
 try-class-mul-takes-2 t c = search needs
 
-try-class-element-copy-out-takes-2 : (t : ℕ) → try-class-lts.Need-element-copy-out-takes-2 (
-  takes-reads.Asked,
-  takes-reads.Learnt,
-  ascend-below t,
-  ascend.Post,
-) (try-class-at t) try-class.Post
+try-class-element-copy-out-takes-2 : (t : ℕ) → try-class-lts.Need-element-copy-out-takes-2 (try-class-claims t) (try-class-at t) try-class.Post
 try-class-element-copy-out-takes-2 t c = search needs
 
-try-class-mul-takes-3 : (t : ℕ) → try-class-lts.Need-mul-takes-3 (
-  takes-reads.Asked,
-  takes-reads.Learnt,
-  ascend-below t,
-  ascend.Post,
-) (try-class-at t) try-class.Post
+try-class-mul-takes-3 : (t : ℕ) → try-class-lts.Need-mul-takes-3 (try-class-claims t) (try-class-at t) try-class.Post
 try-class-mul-takes-3 t c = search needs
 
-try-class-element-copy-out-takes-3 : (t : ℕ) → try-class-lts.Need-element-copy-out-takes-3 (
-  takes-reads.Asked,
-  takes-reads.Learnt,
-  ascend-below t,
-  ascend.Post,
-) (try-class-at t) try-class.Post
+try-class-element-copy-out-takes-3 : (t : ℕ) → try-class-lts.Need-element-copy-out-takes-3 (try-class-claims t) (try-class-at t) try-class.Post
 try-class-element-copy-out-takes-3 t c = search needs
 
-try-class-takes-requires : (t : ℕ) → try-class-lts.Need-takes-requires (
-  takes-reads.Asked,
-  takes-reads.Learnt,
-  ascend-below t,
-  ascend.Post,
-) (try-class-at t) try-class.Post
+try-class-takes-requires : (t : ℕ) → try-class-lts.Need-takes-requires (try-class-claims t) (try-class-at t) try-class.Post
 try-class-takes-requires t c κs = search needs
 
-try-class-returns : (t : ℕ) → try-class-lts.Need-returns (
-  takes-reads.Asked,
-  takes-reads.Learnt,
-  ascend-below t,
-  ascend.Post,
-) (try-class-at t) try-class.Post
+try-class-returns : (t : ℕ) → try-class-lts.Need-returns (try-class-claims t) (try-class-at t) try-class.Post
 unfolding takes endsAt
 try-class-returns t c =
     let at-takes = c .before in
@@ -262,12 +145,7 @@ try-class-returns t c =
     let here : takes all (s .args .class) ≡ true = sym (at-takes .takes .ensures) ∙ c .if1 .taken in
     sym (try-takes all 16 (s .args .pointers .now) (s .args .class) here)
 
-try-class-ascend-requires : (t : ℕ) → try-class-lts.Need-ascend-requires (
-  takes-reads.Asked,
-  takes-reads.Learnt,
-  ascend-below t,
-  ascend.Post,
-) (try-class-at t) try-class.Post
+try-class-ascend-requires : (t : ℕ) → try-class-lts.Need-ascend-requires (try-class-claims t) (try-class-at t) try-class.Post
 unfolding takes
 try-class-ascend-requires t c κs =
     let at-takes = c .before .before in
@@ -276,12 +154,7 @@ try-class-ascend-requires t c κs =
     let on : takes all (s .args .class) ≡ false = sym (at-takes .takes .ensures) ∙ c .before .if1 .left in
     (omega (arith, s .pre .0), (s .pre .1 .0, s .pre .1 .1, s .pre .1 .2, passes-on all (s .args .class) on))
 
-try-class-returns-2 : (t : ℕ) → try-class-lts.Need-returns-2 (
-  takes-reads.Asked,
-  takes-reads.Learnt,
-  ascend-below t,
-  ascend.Post,
-) (try-class-at t) try-class.Post
+try-class-returns-2 : (t : ℕ) → try-class-lts.Need-returns-2 (try-class-claims t) (try-class-at t) try-class.Post
 unfolding takes aboveIn
 try-class-returns-2 t c =
     let at-takes = c .before .before .before in
@@ -299,14 +172,7 @@ try-class-returns-2 t c =
     ∙ sym (try-passes all 15 pointers class on)
 
 pub +ascend+try-class-spec : {M : Type 1} → statement M
-+ascend+try-class-spec = close μ-ascend μ-try-class (λ t. ascend-lts.spec (
-  moved-reads.Asked,
-  moved-reads.Learnt,
-  nth-reads.Asked,
-  nth-reads.Learnt,
-  try-class-below t,
-  try-class.Post,
-)
++ascend+try-class-spec = close μ-ascend μ-try-class (λ t. ascend-lts.spec (ascend-claims t)
     (ascend-at t)
     ascend.Post
     (ascend-mul-moved t)
@@ -321,12 +187,7 @@ pub +ascend+try-class-spec : {M : Type 1} → statement M
     (ascend-nth-requires t)
     (ascend-try-class-requires t)
     (ascend-returns t))
-    λ t. try-class-lts.spec (
-      takes-reads.Asked,
-      takes-reads.Learnt,
-      ascend-below t,
-      ascend.Post,
-    )
+    λ t. try-class-lts.spec (try-class-claims t)
     (try-class-at t)
     try-class.Post
     (try-class-mul-takes t)

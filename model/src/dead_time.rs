@@ -3,7 +3,8 @@
 use crate::planted::Planted;
 use crate::policy::Policy;
 use crate::state::State;
-use crate::walk::{moved_pointer, named_cover};
+use crate::tick::set_to_caps;
+use crate::walk::{home, moved_pointer, named_cover, walk};
 
 /// The lookahead (document 01: trial walk).
 #[derive(Clone, Debug, PartialEq, Eq)]
@@ -32,27 +33,56 @@ pub(crate) enum TurnsLeft {
     AtTheCaps,
 }
 
-/// "It is dropped when a trial walk, by the marks as they would move and the
-/// turns left (the caps, in an epoch's last turn), reaches the owner".
+/// Whether the dead time of a turn is dropped, which what comes next decides.
 ///
 /// Asked at a turn's start, after the walk: the state holds the pointers and
 /// turns left from which the next turn's walk will go on.
 pub(crate) fn is_elided(policy: &Policy, state: &State, turn: u32, planted: Planted) -> bool {
-    // All but the last case are no rules, but leaks that tests plant.
-    let by = match planted {
+    // No rules, but leaks that tests plant.
+    match planted {
         Planted::AlwaysElided => return true,
         Planted::AlwaysElidedInLongTurns if policy.timing.turn_length >= 240 => return true,
         Planted::Document000Elision => return document_000_elides(policy, state),
+        _ => {}
+    }
+    match home(policy, turn + 1, planted) {
+        // Not a rule: a leak that tests plant.
+        Some(_) if planted == Planted::TrialBeforeHomeTurns => {}
+        Some(home) => return is_elided_before_home(policy, state, turn, home, planted),
+        None => {}
+    }
+    // W-202: "The trial walk serves only before those" turns that start at the least
+    // class. "It is dropped when a trial walk, by the marks as they would move and
+    // the turns left (the caps, in an epoch's last turn), reaches the owner".
+    let by = match planted {
+        // Not rules: leaks that tests plant.
         Planted::EpochEndForgotten => TurnsLeft::OfThisEpoch,
         Planted::EpochEndForgottenAboveFive if policy.epoch > 5 => TurnsLeft::OfThisEpoch,
         _ => turns_left_before_next(policy, turn),
     };
-    let end = lookahead(policy, state, by, planted).end;
-    // Not a rule: a leak that tests plant.
-    if planted == Planted::IncomparableForgottenForOwner15 && state.owner == 15 {
-        return end != Lookahead::MeetsClassWithTurnsLeft;
+    lookahead(policy, state, by, planted).end == Lookahead::ReachesOwner
+}
+
+/// W-202: "before a home turn the dead time is dropped if and only if the owner may
+/// flow to the home class." Nothing else is asked, at an epoch's end neither.
+fn is_elided_before_home(
+    policy: &Policy,
+    state: &State,
+    turn: u32,
+    home: usize,
+    planted: Planted,
+) -> bool {
+    let may_flow = policy.flows(state.owner, home);
+    match planted {
+        // Not rules: leaks that tests plant.
+        Planted::IncomparableForgottenForOwner15 if state.owner == 15 => {
+            may_flow || !policy.flows(home, state.owner)
+        }
+        Planted::HomeElisionByNextOwner => {
+            policy.flows(state.owner, next_owner_by_now(policy, state, turn))
+        }
+        _ => may_flow,
     }
-    end == Lookahead::ReachesOwner
 }
 
 /// "(the caps, in an epoch's last turn)": the next turn then starts an epoch.
@@ -119,4 +149,13 @@ pub(crate) fn offset_allows(policy: &Policy, elided: bool, offset: u32) -> bool 
 fn document_000_elides(policy: &Policy, state: &State) -> bool {
     !(0..policy.class_count())
         .any(|class| policy.strictly_below(class, state.owner) && state.classes[class].left > 0)
+}
+
+/// For [`Planted::HomeElisionByNextOwner`] only.
+fn next_owner_by_now(policy: &Policy, state: &State, turn: u32) -> usize {
+    let mut next = state.clone();
+    if turns_left_before_next(policy, turn) == TurnsLeft::AtTheCaps {
+        set_to_caps(policy, &mut next);
+    }
+    walk(policy, &mut next, turn + 1, Planted::Nothing)
 }

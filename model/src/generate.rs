@@ -635,16 +635,25 @@ fn flipped_bit(random: &mut Random) -> Vec<u8> {
 // Traces.
 
 /// A trace for a policy: mostly some hundreds of numbers, at times thousands, and
-/// at times as many as it takes to pass an epoch's end and for a mark that moves
-/// in every turn to go back to 1, where that is not too long.
+/// at times as many as it takes to pass an epoch's end and for the least class's mark
+/// to go back to 1 if it moves in every turn but the home turns, where that is not too
+/// long.
 fn trace_numbers(random: &mut Random, policy: &Policy) -> Vec<u32> {
-    let turns = usize::from(policy.epoch).max(MOST_CLASSES);
-    let wait = turns * usize::from(policy.timing.turn_length);
+    let epoch = usize::from(policy.epoch);
+    let epochs = match epoch - policy.sum_of_minimums() as usize {
+        0 => 1,
+        others => MOST_CLASSES.div_ceil(others),
+    };
+    let wait = epochs * epoch * usize::from(policy.timing.turn_length);
+    // It goes back from fifteen children at the latest, in few policies, and later by
+    // the turns that the class takes.
+    let fifteen = policy.covers_of(policy.least()).len() == MOST_CLASSES - 1;
+    let (patience, wait) = if fifteen { (75, 2 * wait) } else { (25, wait) };
     let length = match random.below(100) {
         0 => random.between(2_000, 5_000),
         1..=9 => random.between(400, 800),
         10 => 0,
-        11..=25 if wait <= LONGEST_WAIT => {
+        chance if chance <= patience && wait <= LONGEST_WAIT => {
             return stretches(random, policy, |writer| writer.cycle > wait);
         }
         _ => random.between(1, 400),
@@ -653,7 +662,7 @@ fn trace_numbers(random: &mut Random, policy: &Policy) -> Vec<u32> {
 }
 
 /// So many cycles are not too long.
-const LONGEST_WAIT: usize = 2_000;
+const LONGEST_WAIT: usize = 3_000;
 
 /// A trace of exactly so many numbers for a policy.
 pub fn trace_of_length(random: &mut Random, policy: &Policy, length: usize) -> Vec<u32> {

@@ -4,11 +4,12 @@
 
 use crate::altered::Altered;
 use crate::met::Met;
+use crate::pairs::pair_from_used_up;
 use crate::planted::Planted;
 use crate::policy::Policy;
 use crate::random::Random;
 use crate::refusal::Refusal;
-use crate::state::{self, State};
+use crate::state::State;
 use crate::tick::{offer_planted, tick_planted};
 use crate::trace::{run_planted, tick_line, Word, LINE};
 
@@ -61,6 +62,15 @@ pub fn search(count: u64) -> Search {
 
 /// The same search with a wrong rule in place. For tests.
 pub fn search_planted(count: u64, planted: Planted) -> Search {
+    search_pairs(count, planted, pair)
+}
+
+/// The same from states in which turns are used up. For tests.
+pub fn search_used_up(count: u64, planted: Planted) -> Search {
+    search_pairs(count, planted, pair_from_used_up)
+}
+
+fn search_pairs(count: u64, planted: Planted, pair: fn(u64) -> Pair) -> Search {
     let mut search = Search::default();
     for seed in 0..count {
         let pair = pair(seed);
@@ -267,14 +277,14 @@ pub(crate) struct Performed {
     pub(crate) log: Vec<u32>,
 }
 
-/// Performs a list from the policy's fresh state: "ticks and offers, made singly
-/// or inside one run or several, and malformed words, which get 14 inside a run".
+/// Performs a list from the pair's state: "ticks and offers, made singly or inside
+/// one run or several, and malformed words, which get 14 inside a run".
 fn perform(pair: &Pair, side: usize, planted: Planted) -> Performed {
     let list = &pair.lists[side];
     let mut performer = Performer {
         policy: &pair.policy,
         planted,
-        state: state::fresh(&pair.policy).0,
+        state: pair.start.clone(),
         run_refused: None,
     };
     let mut log = vec![0; LINE * list.len()];

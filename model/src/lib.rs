@@ -13,14 +13,15 @@
 //! | Trace and log                      | [`trace`]               |
 //! | The extract                        | [`extract`]             |
 //! | Two lists side by side             | [`leaks`], [`pairs`]    |
+//! | W-202's promises of turns          | [`promises`]            |
 //! | The program                        | [`program`]             |
 //! | What is turned down                | [`refusal`]             |
 //!
 //! [`generate`] makes policies and traces from a seed, [`coverage`] counts
 //! what they exercise, [`random`] is the source of chance of both, and
-//! [`planted`] holds the wrong rules that the search for leaks must find;
-//! [`altered`] holds the faults by which its comparison is tested, and [`met`]
-//! counts what it meets.
+//! [`planted`] holds the wrong rules that the searches for leaks and for broken
+//! promises must find; [`altered`] holds the faults by which the comparison of the
+//! search for leaks is tested, and [`met`] counts what it meets.
 //!
 //! The text in quotation marks above a rule is document 01's own, or that of
 //! document 02's request which is named before it.
@@ -38,6 +39,7 @@ pub mod pairs;
 pub mod planted;
 pub mod policy;
 pub mod program;
+pub mod promises;
 pub mod random;
 pub mod refusal;
 pub mod state;

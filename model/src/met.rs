@@ -7,12 +7,13 @@ use crate::extract::HIDDEN_TURN;
 use crate::pairs::{Cut, Pair};
 use crate::policy::MOST_CLASSES;
 use crate::refusal::Refusal;
-use crate::trace::{Word, COLUMN_BIT, LINE, OFFER_BIT};
+use crate::tick::turn_number;
+use crate::trace::{Word, COLUMN_BIT, ELIDED, LINE, OFFER_BIT};
 
 /// What is counted, and how much of it so many pairs must have met.
 type Counted = (&'static str, fn(u64) -> u64);
 
-const COUNTED: [Counted; 30] = [
+const COUNTED: [Counted; 38] = [
     ("pairs compared", |pairs| pairs),
     ("pairs of different lists", |pairs| pairs / 2),
     ("pairs with lists of different lengths", |pairs| pairs / 2),
@@ -21,6 +22,15 @@ const COUNTED: [Counted; 30] = [
     ("pairs in which all classes may flow to L", |_| 1),
     ("pairs of sixteen classes", |pairs| pairs / 6),
     ("pairs with another least class than 0", |pairs| pairs / 2),
+    ("pairs without home turns", |pairs| pairs / 20),
+    ("pairs with home turns and others", |pairs| pairs / 5),
+    ("pairs with home turns alone", |pairs| pairs / 5),
+    ("home turns that their class owns", |pairs| pairs),
+    ("home turns passed on", |pairs| pairs),
+    ("dead times dropped before a home turn", |pairs| pairs),
+    ("dead times kept before a home turn", |pairs| pairs),
+    // There, with home turns alone, the epoch's end makes no difference.
+    ("epochs' ends before a home turn", |pairs| pairs),
     ("pairs past the end of an epoch above 5", |pairs| pairs / 20),
     ("pairs past the end of an epoch above 16", |pairs| {
         pairs / 100
@@ -104,6 +114,7 @@ impl Met {
         self.add_if(left.ne(right), "pairs with different logs of ticks");
         for log in logs {
             self.add("offers to full queues", refused(log, Refusal::QueueFull));
+            self.add_home_turns(pair, log);
         }
         self.add_seen(extract);
     }
@@ -114,6 +125,11 @@ impl Met {
         let sees_all = (0..n).all(|class| pair.sees(class));
         self.add_if(sees_all, "pairs in which all classes may flow to L");
         self.add_if(n == MOST_CLASSES, "pairs of sixteen classes");
+        let sum = policy.sum_of_minimums();
+        self.add_if(sum == 0, "pairs without home turns");
+        let all = sum == u32::from(policy.epoch);
+        self.add_if(all, "pairs with home turns alone");
+        self.add_if(sum > 0 && !all, "pairs with home turns and others");
         let least = policy.least();
         self.add_if(least != 0, "pairs with another least class than 0");
         let ticks = pair.ticks();
@@ -129,6 +145,27 @@ impl Met {
             self.add_if(turn_length == 255, "pairs with turns of 255");
         }
         self.add("lists of 4,000 ticks", 2 * usize::from(ticks >= 4_000));
+    }
+
+    /// Counts the turns of a log by what the plan says of them and of those after.
+    fn add_home_turns(&mut self, pair: &Pair, log: &[u32]) {
+        let policy = &pair.policy;
+        let turns = log.chunks_exact(LINE).map(|line| line[3]);
+        let turns = turns.filter(|&turn| turn != 0);
+        for (number, turn) in (turn_number(policy, pair.start.cycle)..).zip(turns) {
+            if let Some(home) = policy.home(number) {
+                let owned = (turn & 0xFF) as usize == home + 1;
+                self.add_if(owned, "home turns that their class owns");
+                self.add_if(!owned, "home turns passed on");
+            }
+            if policy.home(number + 1).is_some() {
+                let dropped = turn & ELIDED != 0;
+                self.add_if(dropped, "dead times dropped before a home turn");
+                self.add_if(!dropped, "dead times kept before a home turn");
+                let end = (number + 1) % u32::from(policy.epoch) == 0;
+                self.add_if(end, "epochs' ends before a home turn");
+            }
+        }
     }
 
     fn add_lists(&mut self, pair: &Pair) {

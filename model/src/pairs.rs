@@ -35,6 +35,8 @@ pub struct Pair {
     pub policy: Policy,
     /// L.
     pub class: usize,
+    /// The state that both lists go on from.
+    pub start: State,
     pub lists: [Vec<u32>; 2],
     pub cuts: [Cut; 2],
 }
@@ -90,8 +92,33 @@ const MOST_TICKS_OF_SINGLE_CALLS: usize = 240;
 /// Quiet lists are longer than this many ticks.
 const LONG_SINCE: usize = 256;
 
-/// The pair of a seed.
+/// The pair of a seed. Its lists go on from the fresh state.
 pub fn pair(seed: u64) -> Pair {
+    pair_from(seed, |policy, _| state::fresh(policy).0)
+}
+
+/// The same from a state in which turns are used up as no list of calls uses them up:
+/// W-202's plan gives a class at most as many turns as its cap. Demand 3 says nothing of
+/// such states, and yet the rules for turns left must not leak in them.
+pub(crate) fn pair_from_used_up(seed: u64) -> Pair {
+    pair_from(seed, used_up)
+}
+
+/// A state at a turn's start, with any marks and any turns left, which are mostly 0.
+fn used_up(policy: &Policy, random: &mut Random) -> State {
+    let (mut state, _) = state::fresh(policy);
+    let turn = random.below(usize::from(policy.epoch));
+    state.cycle = (turn * usize::from(policy.timing.turn_length)) as u32;
+    for (class, own) in state.classes.iter_mut().enumerate() {
+        if random.percent(70) {
+            own.left = random.below(usize::from(own.left) + 1) as u8 * random.below(2) as u8;
+        }
+        own.pointer = random.below(policy.covers_of(class).len() + 1);
+    }
+    state
+}
+
+fn pair_from(seed: u64, start: fn(&Policy, &mut Random) -> State) -> Pair {
     let random = &mut Random::new(seed);
     // Many short pairs and few long ones: a short one shows most leaks, and the
     // long ones are for what takes long turns, long epochs or great ages.
@@ -109,11 +136,13 @@ pub fn pair(seed: u64) -> Pair {
         2 if ticks <= MOST_TICKS_OF_SINGLE_CALLS => Cut::SingleCalls,
         _ => Cut::OneRun,
     });
-    let lists = agreeing_lists(random, &policy, class, ticks);
+    let start = start(&policy, random);
+    let lists = agreeing_lists(random, &policy, &start, class, ticks);
     Pair {
         file,
         policy,
         class,
+        start,
         lists,
         cuts,
     }
@@ -140,7 +169,7 @@ fn searched_file(random: &mut Random, most_ticks: usize) -> Vec<u8> {
     };
     let mut minimums = vec![0; n];
     // Spread over the classes, or all with one of them.
-    let only = random.percent(25).then(|| random.below(n));
+    let only = random.percent(40).then(|| random.below(n));
     for _ in 0..sum {
         minimums[only.unwrap_or_else(|| random.below(n))] += 1;
     }
@@ -185,11 +214,16 @@ fn searched_epoch(random: &mut Random, most_turns: usize) -> usize {
     }
 }
 
-/// Any class, though one that may not see all others if chance allows.
+/// Any class, though one that may not see all others if chance allows. Often one with
+/// a minimum: what is in flight as its home turns start must not show.
 fn searched_class(random: &mut Random, policy: &Policy) -> usize {
     let n = policy.class_count();
     let sees_all = |class: usize| (0..n).all(|other| policy.flows(other, class));
-    let class = random.below(n);
+    let mut classes: Vec<usize> = (0..n).collect();
+    if policy.sum_of_minimums() > 0 && random.percent(40) {
+        classes.retain(|&class| policy.minimums[class] > 0);
+    }
+    let class = *random.pick(&classes);
     if sees_all(class) {
         random.below(n)
     } else {
@@ -375,6 +409,7 @@ impl Side<'_> {
 fn agreeing_lists(
     random: &mut Random,
     policy: &Policy,
+    start: &State,
     class: usize,
     ticks: usize,
 ) -> [Vec<u32>; 2] {
@@ -414,7 +449,7 @@ fn agreeing_lists(
     let mut sides = [(); 2].map(|()| Side {
         policy,
         list: Vec::new(),
-        state: state::fresh(policy).0,
+        state: start.clone(),
     });
     // Some lists end in offers and malformed words, and not in a tick; at times
     // one of the two alone.

@@ -1,11 +1,12 @@
-//! Wrong rules, each of which leaks. They exist so that tests can show that the
-//! search for leaks finds them; nothing but those tests asks for one.
+//! Wrong rules, each of which leaks or breaks a promise. They exist so that tests
+//! can show that the searches for those find them; nothing but those tests asks for
+//! one.
 
 /// Which wrong rule is in place.
 #[derive(Clone, Copy, Debug, Default, PartialEq, Eq)]
 pub enum Planted {
-    /// None: the rules of document 01 with W-201. Every tick, run and program
-    /// uses this.
+    /// None: the rules of document 01 with W-201 and W-202. Every tick, run and
+    /// program uses this.
     #[default]
     Nothing,
     /// The dead time is always dropped.
@@ -29,8 +30,8 @@ pub enum Planted {
     /// The age of a bank's last activate is kept in 8 bits, so that after 256
     /// cycles its gap counts as not met once more.
     BankAgeInEightBits,
-    /// Where class 15 owns the turn, the trial walk forgets that a class may be
-    /// incomparable: only turns left keep the dead time.
+    /// Where class 15 owns the turn, it is forgotten that the home class of the next
+    /// turn may be incomparable: only one below keeps the dead time.
     IncomparableForgottenForOwner15,
     /// Besides its own limit of 8, each class draws on one pool of 120 requests.
     SharedPoolOf120,
@@ -43,15 +44,39 @@ pub enum Planted {
     /// A run refused with 15 makes its calls.
     RefusedRunMakesItsCalls,
     /// The trial walk goes to the children that the marks name as they are, not
-    /// as they would move: it takes the way of the turn's own walk once more.
+    /// as they would move: it takes the way of the turn's own walk once more. It
+    /// leaks where turns are used up as no list of calls from a fresh state uses
+    /// them up.
     TrialByUnmovedMarks,
     /// The mark of a class that takes the turn moves if a request of another
     /// class waits.
     MarkMovedIfOthersWait,
+    /// The trial walk, which starts at the least class, serves before home turns
+    /// too.
+    TrialBeforeHomeTurns,
+    /// Before a home turn the dead time is dropped if the owner may flow to the
+    /// class that the walk would end at by the requests that wait now.
+    HomeElisionByNextOwner,
+    /// A home class that takes its turn is charged if a request of a class strictly
+    /// above it waits.
+    HomeChargedIfHigherWaits,
+    /// The plan begins one turn late: the first class in it has one home turn fewer
+    /// than its minimum, and the walk of that turn starts at the least class.
+    PlanOneShort,
+    /// A home turn's walk starts at the least class, as if there were no plan.
+    HomeTurnsStartAtLeast,
+    /// The same, and whoever takes a home turn is not charged.
+    HomeTurnsForAnyone,
+    /// A home class takes its turn only if it has turns left.
+    HomeNeedsTurnsLeft,
+    /// An owner that the walk ascends to is not charged.
+    AscentNotCharged,
+    /// Where the dead time is kept, it begins one cycle early.
+    DeadTimeEarly,
 }
 
-/// Every wrong rule.
-pub const LEAKS: [Planted; 15] = [
+/// Every wrong rule that leaks in a list of calls from a fresh state.
+pub const LEAKS: [Planted; 17] = [
     Planted::AlwaysElided,
     Planted::Document000Elision,
     Planted::EpochEndForgotten,
@@ -65,6 +90,8 @@ pub const LEAKS: [Planted; 15] = [
     Planted::MarkCarried,
     Planted::RunAnswersForItsLastWord,
     Planted::RefusedRunMakesItsCalls,
-    Planted::TrialByUnmovedMarks,
     Planted::MarkMovedIfOthersWait,
+    Planted::TrialBeforeHomeTurns,
+    Planted::HomeElisionByNextOwner,
+    Planted::HomeChargedIfHigherWaits,
 ];

@@ -91,6 +91,30 @@ impl Policy {
         self.covers.get(class).map_or(&[], Vec::as_slice)
     }
 
+    /// The class whose home turn a turn is, if it is one. W-202: "Let S be the sum
+    /// of minimums. The last S turns of each epoch become home turns, class by class
+    /// in rising number, each as often as its minimum." Where S is E, every turn is
+    /// one; where the policy is out of range, none is.
+    pub fn home(&self, turn: u32) -> Option<usize> {
+        let epoch = u32::from(self.epoch);
+        let others = epoch.checked_sub(self.sum_of_minimums())?;
+        let mut place = turn.checked_rem(epoch)?.checked_sub(others)?;
+        for (class, &minimum) in self.minimums.iter().enumerate() {
+            match place.checked_sub(u32::from(minimum)) {
+                Some(later) => place = later,
+                None => return Some(class),
+            }
+        }
+        // Not met: there are as many places as the minimums sum up to.
+        None
+    }
+
+    /// S.
+    pub fn sum_of_minimums(&self) -> u32 {
+        let minimums = self.minimums.iter();
+        minimums.map(|&minimum| u32::from(minimum)).sum()
+    }
+
     /// The policy's part of 13: "a policy that 2 to 8 would refuse, or whose
     /// stored children or caps are not its order's".
     pub fn in_range(&self) -> bool {
@@ -170,12 +194,7 @@ impl Policy {
 
     /// 7: "E or the sum of minimums out of range".
     fn turns_are_sound(&self) -> bool {
-        let sum: u32 = self
-            .minimums
-            .iter()
-            .map(|&minimum| u32::from(minimum))
-            .sum();
-        (1..=LONGEST_EPOCH).contains(&self.epoch) && sum <= u32::from(self.epoch)
+        (1..=LONGEST_EPOCH).contains(&self.epoch) && self.sum_of_minimums() <= u32::from(self.epoch)
     }
 }
 

@@ -124,18 +124,23 @@ fn start_turn(policy: &Policy, state: &mut State, planted: Planted) -> Option<Tu
     // "If the turn's number, t over the turn length, is a multiple of E, all
     // turns left are set to the caps."
     if turn % u32::from(policy.epoch) == 0 {
-        for (class, &cap) in state.classes.iter_mut().zip(&policy.caps) {
-            class.left = cap;
-        }
+        set_to_caps(policy, state);
     }
     // "Then the walk picks the owner." "An owner keeps its turn, idle or not":
     // nothing else sets it.
-    state.owner = walk(policy, state, planted);
+    state.owner = walk(policy, state, turn, planted);
     state.elided = is_elided(policy, state, turn, planted);
     Some(Turn {
         owner: state.owner,
         elided: state.elided,
     })
+}
+
+/// "all turns left are set to the caps"
+pub(crate) fn set_to_caps(policy: &Policy, state: &mut State) {
+    for (class, &cap) in state.classes.iter_mut().zip(&policy.caps) {
+        class.left = cap;
+    }
 }
 
 /// "2. If a column command is due, it goes out. Otherwise the head of the
@@ -145,7 +150,9 @@ fn drive_wires(policy: &Policy, state: &mut State, planted: Planted) -> Wires {
     if let Some(request) = take_due(&mut state.columns, state.cycle) {
         return Wires::Column(request);
     }
-    if !offset_allows(policy, state.elided, offset(policy, state.cycle)) {
+    // One cycle early is not a rule: a broken promise that tests plant.
+    let early = u32::from(planted == Planted::DeadTimeEarly);
+    if !offset_allows(policy, state.elided, offset(policy, state.cycle) + early) {
         return Wires::Nothing;
     }
     let Some(&head) = state.classes[state.owner].queue.front() else {

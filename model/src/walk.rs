@@ -4,15 +4,65 @@ use crate::planted::Planted;
 use crate::policy::Policy;
 use crate::state::State;
 
-/// "The walk picks the owner." It moves the pointers of the classes it passes on
-/// from and takes one of the owner's turns left.
-pub(crate) fn walk(policy: &Policy, state: &mut State, planted: Planted) -> usize {
-    // "It tries the least class first."
-    let owner = try_class(policy, state, policy.least(), planted);
-    // "The owner's turns left fall by 1, not below 0."
+/// "The walk picks the owner" of a turn. It moves the pointers of the classes it
+/// passes on from and takes one of the owner's turns left, unless it is the home
+/// class and takes its home turn.
+pub(crate) fn walk(policy: &Policy, state: &mut State, turn: u32, planted: Planted) -> usize {
+    let first = match home(policy, turn, planted) {
+        // W-202: "A home turn's walk starts at its class, which takes it if a
+        // request waits, turns left or not, and is not charged".
+        Some(home) if takes_home_turn(state, home, planted) => {
+            // Not a rule: a leak that tests plant.
+            if planted == Planted::HomeChargedIfHigherWaits && a_higher_waits(policy, state, home) {
+                charge(state, home);
+            }
+            return home;
+        }
+        // "otherwise the walk ascends as usual and charges. An idle home class with
+        // nothing above it owns the turn and is charged." That is what becomes of any
+        // class that is tried while nothing waits there.
+        Some(home) => home,
+        // "Other turns start at the least class": "It tries the least class first."
+        None => policy.least(),
+    };
+    let owner = try_class(policy, state, first, planted);
+    // Not rules: broken promises that tests plant.
+    let free = match planted {
+        Planted::HomeTurnsForAnyone => policy.home(turn).is_some(),
+        Planted::AscentNotCharged => owner != first,
+        _ => false,
+    };
+    if !free {
+        charge(state, owner);
+    }
+    owner
+}
+
+/// The plan of home turns that the walk and the dead time go by.
+pub(crate) fn home(policy: &Policy, turn: u32, planted: Planted) -> Option<usize> {
+    let home = policy.home(turn);
+    let epoch = u32::from(policy.epoch);
+    match planted {
+        // Not rules: broken promises that tests plant.
+        Planted::HomeTurnsStartAtLeast | Planted::HomeTurnsForAnyone => None,
+        Planted::PlanOneShort if turn % epoch == epoch - policy.sum_of_minimums() => None,
+        _ => home,
+    }
+}
+
+/// Whether the home class takes its turn: "if a request waits, turns left or not".
+fn takes_home_turn(state: &State, home: usize, planted: Planted) -> bool {
+    match planted {
+        // Not a rule: a broken promise that tests plant.
+        Planted::HomeNeedsTurnsLeft => waits_with_turns_left(state, home),
+        _ => waits(state, home),
+    }
+}
+
+/// "The owner's turns left fall by 1, not below 0."
+fn charge(state: &mut State, owner: usize) {
     let left = &mut state.classes[owner].left;
     *left = left.saturating_sub(1);
-    owner
 }
 
 /// Document 01: a class is tried. Each try is strictly above the one before, so
@@ -64,8 +114,11 @@ fn ascend(policy: &Policy, state: &mut State, class: usize, planted: Planted) ->
 
 /// "it has a request waiting and turns left"
 pub(crate) fn waits_with_turns_left(state: &State, class: usize) -> bool {
-    let own = &state.classes[class];
-    !own.queue.is_empty() && own.left > 0
+    waits(state, class) && state.classes[class].left > 0
+}
+
+fn waits(state: &State, class: usize) -> bool {
+    !state.classes[class].queue.is_empty()
 }
 
 /// The pointer of a class once it is moved "on by 1, from the number of its
@@ -92,5 +145,11 @@ pub(crate) fn named_cover(policy: &Policy, class: usize, pointer: usize) -> Opti
 /// For [`Planted::MarkMovedIfOthersWait`] only.
 fn another_waits(state: &State, class: usize) -> bool {
     let mut others = (0..state.classes.len()).filter(|&other| other != class);
-    others.any(|other| !state.classes[other].queue.is_empty())
+    others.any(|other| waits(state, other))
+}
+
+/// For [`Planted::HomeChargedIfHigherWaits`] only.
+fn a_higher_waits(policy: &Policy, state: &State, class: usize) -> bool {
+    (0..state.classes.len())
+        .any(|higher| policy.strictly_below(class, higher) && waits(state, higher))
 }

@@ -254,6 +254,48 @@ fn diamond() -> String {
     run_case("diamond", &policy, fresh(&policy), &list)
 }
 
+/// A list after a first turn, with turns left that no list from fresh leads to.
+fn with_turns_left_later(
+    name: &str,
+    policy: &Policy,
+    left: &[(usize, u8)],
+    list: &[u32],
+) -> String {
+    let mut state = fresh(policy);
+    run_on(policy, &mut state, &[0; 4]);
+    for &(class, turns) in left {
+        state.classes[class].left = turns;
+    }
+    run_case(name, policy, state, list)
+}
+
+/// The trial walk passes classes without turns left, and fails at one that has some or that may not
+/// flow to the owner; a home class without turns left takes its turn, and an idle one passes it up
+/// or owns it.
+fn used_up() -> String {
+    let plain = policy(&DIAMOND, 8, &[0; 4], TIMING);
+    let mut waiting = vec![0x8000_0001, 0x8101_0002, 0x8202_0003];
+    waiting.extend([0; 16]);
+    let homes = policy(&DIAMOND, 6, &[0, 1, 1, 2], TIMING);
+    let mut list = vec![0x8100_0001, 0x8001_0002];
+    list.extend([0; 12]);
+    list.push(0x8302_0003);
+    list.extend([0; 8]);
+    let none = [(0, 0), (1, 0), (2, 0), (3, 0)];
+    [
+        with_turns_left_later("used up below the top", &plain, &none[..3], &waiting),
+        with_turns_left_later(
+            "used up but for class 1",
+            &plain,
+            &[(0, 0), (2, 0)],
+            &waiting,
+        ),
+        with_turns_left_later("used up but for the children", &plain, &none[..1], &waiting),
+        with_turns_left_later("home turns with none left", &homes, &none, &list),
+    ]
+    .concat()
+}
+
 /// What an offer of class 2 and what a tick answer.
 fn both(name: &str, policy: &Policy, state: &State) -> String {
     let request = read_request(2, 9);
@@ -750,6 +792,7 @@ fn calls() -> String {
         last_cycles(),
         chain(),
         diamond(),
+        used_up(),
         changed_states(&OUT_OF_RANGE),
         policies(),
         changed_states(&IN_RANGE),
@@ -807,7 +850,7 @@ fn the_proved_program_answers_as_the_model_does() {
         &(files() + &extracts() + &stored_policies()),
     );
     let calls = compare("cases_calls", &(calls() + &runs()));
-    assert_eq!((policies, calls), (784, 458));
+    assert_eq!((policies, calls), (784, 538));
 }
 
 #[test]

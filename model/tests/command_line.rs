@@ -193,7 +193,7 @@ fn extract_prints_what_a_class_sees() {
         printed(&["extract", "1"], &folder),
         "status command answer turn\n\
          00000000 00000000 00000000 00000000\n\
-         00000000 81000007 00000000 00000002\n\
+         00000000 81000007 00000000 00000102\n\
          00000000 C1000007 00000000 00000000\n"
     );
     assert_eq!(printed(&["extract", "2"], &folder), "extract refused 9\n");

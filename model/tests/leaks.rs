@@ -5,7 +5,8 @@ use std::sync::OnceLock;
 
 use vigambul_model::altered::Altered;
 use vigambul_model::leaks::{
-    self, check_altered, search, search_planted, Check, Search, ORDINARY_PAIRS, PAIRS_ENOUGH,
+    self, check_altered, search, search_planted, search_used_up, Check, Search, ORDINARY_PAIRS,
+    PAIRS_ENOUGH,
 };
 use vigambul_model::planted::{self, Planted};
 
@@ -13,7 +14,10 @@ use vigambul_model::planted::{self, Planted};
 /// the search on the library is tried too.
 fn finds(planted: Planted) -> Option<Check> {
     assert!(planted::LEAKS.contains(&planted), "{planted:?}");
-    let search = search_planted(PAIRS_ENOUGH, planted);
+    found(planted, search_planted(PAIRS_ENOUGH, planted))
+}
+
+fn found(planted: Planted, search: Search) -> Option<Check> {
     println!(
         "{planted:?} after {} pairs: {:?}",
         search.met.pairs(),
@@ -103,7 +107,7 @@ fn finds_a_bank_age_of_8_bits() {
 }
 
 #[test]
-fn finds_a_trial_walk_that_forgets_incomparable_classes_for_owner_15() {
+fn finds_dead_time_that_forgets_incomparable_home_classes_for_owner_15() {
     finds(Planted::IncomparableForgottenForOwner15);
 }
 
@@ -129,13 +133,40 @@ fn finds_a_refused_run_that_makes_its_calls() {
 }
 
 #[test]
+fn the_model_as_it_is_shows_no_leak_where_turns_are_used_up() {
+    let search = search_used_up(ORDINARY_PAIRS / 5, Planted::Nothing);
+    assert_eq!(search.leak, None);
+}
+
+/// From the fresh state the trial walk goes no further than the least class (W-202): what
+/// it does past that shows only where turns are used up.
+#[test]
 fn finds_a_trial_walk_that_goes_by_the_unmoved_marks() {
-    finds(Planted::TrialByUnmovedMarks);
+    let planted = Planted::TrialByUnmovedMarks;
+    found(planted, search_used_up(PAIRS_ENOUGH, planted));
+    assert_eq!(search_planted(PAIRS_ENOUGH, planted).leak, None);
 }
 
 #[test]
 fn finds_a_mark_that_moves_on_a_taken_turn_if_others_wait() {
     finds(Planted::MarkMovedIfOthersWait);
+}
+
+#[test]
+fn finds_a_trial_walk_before_home_turns() {
+    finds(Planted::TrialBeforeHomeTurns);
+}
+
+#[test]
+fn finds_dead_time_before_a_home_turn_that_goes_by_who_waits_now() {
+    finds(Planted::HomeElisionByNextOwner);
+}
+
+/// Turns left never decide an owner (`promises.rs`), so no log shows this leak.
+#[test]
+fn finds_a_home_class_that_is_charged_if_a_higher_one_waits() {
+    let check = finds(Planted::HomeChargedIfHigherWaits);
+    assert_eq!(check, Some(Check::TurnsLeft));
 }
 
 /// Each change in what is compared, and the one comparison that can tell it.

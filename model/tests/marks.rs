@@ -71,12 +71,11 @@ fn turns_that_a_class_takes_leave_the_next_child_as_it_was() {
 
 #[test]
 fn marks_stay_as_they_are_where_an_epoch_starts() {
-    // Three children, epochs of two turns, none of which class 0 has: each epoch
+    // Three children, epochs of two turns, all of which class 0 passes on: each epoch
     // goes on where the one before ended.
-    let policy = policy(&[0b1111, 0b0010, 0b0100, 0b1000], 2, &[0, 2, 0, 0], TIMING);
-    assert_eq!(policy.caps[0], 0);
+    let policy = policy(&[0b1111, 0b0010, 0b0100, 0b1000], 2, &[0; 4], TIMING);
     let mut state = fresh(&policy);
-    let picked: Vec<u32> = (0..7).map(|_| turn(&policy, &mut state, &[0]).0).collect();
+    let picked: Vec<u32> = (0..7).map(|_| turn(&policy, &mut state, &[]).0).collect();
     assert_eq!(picked, [1, 2, 3, 1, 2, 3, 1]);
 }
 
@@ -85,10 +84,9 @@ fn marks_stay_as_they_are_where_an_epoch_starts() {
 #[test]
 fn the_trial_walk_goes_by_the_mark_that_stayed() {
     let rows = [0b1111, 0b1110, 0b0100, 0b1000];
-    // Class 0 has no turns, class 1 one of three.
-    let policy = policy(&rows, 3, &[0, 1, 1, 1], TIMING);
-    assert_eq!(policy.caps, [0, 1, 3, 3]);
-    let mut state = fresh(&policy);
+    let policy = policy(&rows, 64, &[0; 4], TIMING);
+    // Class 0 has no turns left, class 1 one.
+    let mut state = with_turns_left(&policy, &[(0, 0), (1, 1)]);
     // Class 1 takes its turn; the trial walk reaches it past class 0 without
     // asking its own mark, which stays 0.
     assert_eq!(turn(&policy, &mut state, &[1]), (1, DROPPED));
@@ -98,31 +96,33 @@ fn the_trial_walk_goes_by_the_mark_that_stayed() {
     assert_eq!(marks(&state), [1, 1, 0, 0]);
     assert_eq!(turn(&policy, &mut state, &[1]), (3, KEPT));
     assert_eq!(marks(&state), [1, 2, 0, 0]);
-    // A new epoch: it takes one more, and then the first child is next again.
+    // With one turn more it takes that, and then the first child is next again.
+    state.classes[1].left = 1;
     assert_eq!(turn(&policy, &mut state, &[1]), (1, DROPPED));
     assert_eq!(turn(&policy, &mut state, &[1]), (2, KEPT));
 }
 
 /// 0 below 1 and 2, both below 3, and 4 above 1 alone. Class 3 drops its dead time
 /// where the trial walk comes to it through class 1: that rests on 1's mark, which
-/// stays when 1 takes the one turn that it has in an epoch.
+/// stays when 1 takes the one turn that it has left.
 #[test]
 fn a_mark_that_stays_decides_the_dead_time() {
     let rows = [0b11111, 0b11010, 0b01100, 0b01000, 0b10000];
-    let policy = policy(&rows, 4, &[0, 1, 0, 1, 2], TIMING);
-    assert_eq!(policy.caps, [0, 1, 3, 4, 4]);
+    let policy = policy(&rows, 64, &[0; 5], TIMING);
     assert_eq!(policy.covers[1], [3, 4]);
-    let mut state = fresh(&policy);
+    let mut state = with_turns_left(&policy, &[(0, 0), (1, 1)]);
     assert_eq!(turn(&policy, &mut state, &[1]), (1, KEPT));
     assert_eq!(marks(&state), [1, 0, 0, 0, 0]);
     // Up through 2. Class 1 would be next and pass its first turn on, to 3.
     assert_eq!(turn(&policy, &mut state, &[]), (3, DROPPED));
     assert_eq!(marks(&state), [2, 0, 1, 0, 0]);
-    // As foretold. Then 2 would be next, with turns left; then, by the caps, 1.
+    // As foretold. Then 2 would be next, with turns left; then 1 once more, which
+    // would pass its second turn on, to 4.
     assert_eq!(turn(&policy, &mut state, &[]), (3, KEPT));
     assert_eq!(marks(&state), [1, 1, 1, 0, 0]);
     assert_eq!(turn(&policy, &mut state, &[]), (3, KEPT));
-    // The same in the next epoch, but class 1 would pass its second turn on, to 4.
+    // The same once class 1 has had another turn of its own.
+    state.classes[1].left = 1;
     assert_eq!(turn(&policy, &mut state, &[1]), (1, KEPT));
     assert_eq!(turn(&policy, &mut state, &[]), (3, KEPT));
     assert_eq!(marks(&state), [2, 1, 1, 0, 0]);
@@ -134,9 +134,29 @@ fn a_mark_that_stays_decides_the_dead_time() {
 struct PassedOn<'a> {
     policy: &'a Policy,
     counts: Vec<usize>,
+    /// The home class of each turn of an epoch; none where it starts at the least.
+    plan: Vec<Option<usize>>,
 }
 
 impl PassedOn<'_> {
+    fn new(policy: &Policy) -> PassedOn<'_> {
+        let classes = policy.minimums.iter().enumerate();
+        let homes = classes.flat_map(|(class, &minimum)| vec![Some(class); minimum.into()]);
+        let mut plan: Vec<Option<usize>> = homes.collect();
+        let others = usize::from(policy.epoch) - plan.len();
+        plan.splice(0..0, vec![None; others]);
+        PassedOn {
+            policy,
+            counts: vec![0; policy.covers.len()],
+            plan,
+        }
+    }
+
+    /// The class whose home turn a turn is.
+    fn home(&self, turn: u32) -> Option<usize> {
+        self.plan[turn as usize % self.plan.len()]
+    }
+
     /// The number of the child that the m-th turn goes to which a class passes
     /// on; 0 where m is 0.
     fn number(&self, class: usize, m: usize) -> usize {
@@ -156,12 +176,18 @@ impl PassedOn<'_> {
             .collect()
     }
 
-    /// The owner of the turn that starts in this state, with these turns left.
-    fn owner(&mut self, state: &State, left: &[u8]) -> usize {
-        let mut class = self.policy.least();
+    /// The owner of the turn that starts in this state, with these turns left, of
+    /// which it takes one unless it takes its home turn.
+    fn owner(&mut self, state: &State, turn: u32, left: &mut [u8]) -> usize {
+        let home = self.home(turn);
+        let mut class = home.unwrap_or(self.policy.least());
         loop {
             let waits = !state.classes[class].queue.is_empty();
+            if waits && home == Some(class) {
+                return class;
+            }
             if waits && left[class] > 0 || self.policy.covers[class].is_empty() {
+                left[class] = left[class].saturating_sub(1);
                 return class;
             }
             self.counts[class] += 1;
@@ -196,15 +222,16 @@ struct Met {
     rounds: usize,
     dropped: usize,
     kept: usize,
+    /// Turns that are dropped since a trial walk passes classes without turns left.
+    past_used_up: usize,
+    /// Home turns that their class takes, and that it passes on.
+    home_taken: usize,
+    home_passed_on: usize,
 }
 
-/// Runs a list from the fresh state and holds every turn against the counts.
-fn check_round_robin(policy: &Policy, list: &[u32], met: &mut Met) {
-    let mut state = fresh(policy);
-    let mut passed_on = PassedOn {
-        policy,
-        counts: vec![0; policy.covers.len()],
-    };
+/// Runs a list from a state with marks of 0 and holds every turn against the counts.
+fn check_round_robin(policy: &Policy, mut state: State, list: &[u32], met: &mut Met) {
+    let mut passed_on = PassedOn::new(policy);
     let mut before: Option<(usize, bool)> = None;
     for &number in list {
         match Word::of(number) {
@@ -225,19 +252,25 @@ fn check_round_robin(policy: &Policy, list: &[u32], met: &mut Met) {
                     assert_eq!(marks(&state), marks(&at_start));
                     continue;
                 };
-                let left: Vec<u8> = match turn % epoch {
+                let left_of = |state: &State| -> Vec<u8> {
+                    state.classes.iter().map(|class| class.left).collect()
+                };
+                let mut left = match turn % epoch {
                     0 => policy.caps.clone(),
-                    _ => at_start.classes.iter().map(|class| class.left).collect(),
+                    _ => left_of(&at_start),
                 };
                 let counts_before = passed_on.counts.clone();
-                let owner = passed_on.owner(&at_start, &left);
+                let owner = passed_on.owner(&at_start, turn, &mut left);
                 assert_eq!(started.owner, owner, "turn {turn}");
                 assert_eq!(marks(&state), passed_on.marks(), "turn {turn}");
-                let left_after: Vec<u8> = match (turn + 1) % epoch {
-                    0 => policy.caps.clone(),
-                    _ => state.classes.iter().map(|class| class.left).collect(),
+                assert_eq!(left_of(&state), left, "turn {turn}");
+                if (turn + 1) % epoch == 0 {
+                    left = policy.caps.clone();
+                }
+                let dropped = match passed_on.home(turn + 1) {
+                    Some(home) => policy.flows(owner, home),
+                    None => passed_on.next_reaches(owner, &left),
                 };
-                let dropped = passed_on.next_reaches(owner, &left_after);
                 assert_eq!(started.elided, dropped, "turn {turn}");
                 // Where the dead time was dropped, what is in flight is of a
                 // class that may flow to the next owner.
@@ -258,6 +291,12 @@ fn check_round_robin(policy: &Policy, list: &[u32], met: &mut Met) {
                     .count();
                 met.dropped += usize::from(dropped && owner != policy.least());
                 met.kept += usize::from(!dropped);
+                let trial = passed_on.home(turn + 1).is_none();
+                met.past_used_up += usize::from(trial && dropped && owner != policy.least());
+                if let Some(home) = passed_on.home(turn) {
+                    met.home_taken += usize::from(home == owner);
+                    met.home_passed_on += usize::from(home != owner);
+                }
             }
         }
     }
@@ -274,10 +313,18 @@ fn turns_passed_on_go_round_the_children() {
     for _ in 0..600 {
         let (policy, _) = policy::read(&sound_fields(random).encode());
         let list = trace_of_length(random, &policy, 1_000);
-        check_round_robin(&policy, &list, &mut met);
+        check_round_robin(&policy, fresh(&policy), &list, &mut met);
+        // The same with turns used up, as no list of calls uses them up.
+        let mut used_up = Vec::new();
+        for class in (0..policy.covers.len()).filter(|_| random.below(4) > 0) {
+            used_up.push((class, 0));
+        }
+        let state = with_turns_left(&policy, &used_up);
+        check_round_robin(&policy, state, &list, &mut met);
         // And with nobody asking, so that many turns are passed on.
         let turns = 40 * usize::from(policy.timing.turn_length);
-        check_round_robin(&policy, &vec![0; turns.min(2_000)], &mut met);
+        let idle = vec![0; turns.min(2_000)];
+        check_round_robin(&policy, fresh(&policy), &idle, &mut met);
     }
     println!("{met:?}");
     assert!(met.turns > 10_000, "{met:?}");
@@ -286,4 +333,7 @@ fn turns_passed_on_go_round_the_children() {
     assert!(met.rounds > 500, "{met:?}");
     assert!(met.dropped > 500, "{met:?}");
     assert!(met.kept > 500, "{met:?}");
+    assert!(met.past_used_up > 200, "{met:?}");
+    assert!(met.home_taken > 500, "{met:?}");
+    assert!(met.home_passed_on > 500, "{met:?}");
 }

@@ -71,7 +71,7 @@ fn extracts_are_printed_in_the_same_form() {
         String::from_utf8_lossy(&extract(1)),
         "status command answer turn\n\
          00000000 00000000 00000000 00000000\n\
-         00000000 8100000A 00000000 00000002\n\
+         00000000 8100000A 00000000 00000102\n\
          trace ends inside a word\n"
     );
     assert_eq!(extract(2), b"extract refused 9\n");

@@ -123,7 +123,7 @@ fn numbers_past_the_log_of_a_run_stay() {
     let mut log = [77; 11];
     let mut state = fresh(&policy);
     assert_eq!(run(&policy, &mut state, &[0, 1], &mut log), Ok(()));
-    assert_eq!(log, [0, 0, 0, 2, 14, 0, 0, 0, 77, 77, 77]);
+    assert_eq!(log, [0, 0, 0, 258, 14, 0, 0, 0, 77, 77, 77]);
 }
 
 #[test]

@@ -185,7 +185,7 @@ fn the_epochs_end_is_seen_by_the_trial_walk_when_e_is_1() {
     let policy = policy(&CHAIN_OF_TWO, 1, &[0, 0], TIMING);
     let log = run_fresh(&policy, &[0; 12]);
     assert_eq!(owners(&log), [(1, false); 3]);
-    // With a cap of 0 it always does.
+    // With a minimum of 1 every turn is its home turn, and it always does.
     let policy = common::policy(&CHAIN_OF_TWO, 1, &[0, 1], TIMING);
     let log = run_fresh(&policy, &always_waiting(&policy, &[0], 3));
     assert_eq!(owners(&log), [(1, true); 3]);
@@ -193,15 +193,13 @@ fn the_epochs_end_is_seen_by_the_trial_walk_when_e_is_1() {
 
 #[test]
 fn the_trial_walk_moves_pointers_of_classes_on_its_way() {
-    // Caps of 0 below the top: 0 under 1 and 2, both under 3. Every walk ends at
-    // 3, by 1 and by 2 in turn, and the trial walk reaches it either way.
-    let policy = policy(&DIAMOND, 2, &[0, 0, 0, 2], TIMING);
-    assert_eq!(policy.caps, [0, 0, 0, 2]);
-    let log = run_fresh(&policy, &[0; 16]);
-    assert_eq!(owners(&log), [(3, true); 4]);
+    // No turns left below the top: 0 under 1 and 2, both under 3. Every walk ends
+    // at 3, by 1 and by 2 in turn, and the trial walk reaches it either way.
+    let policy = policy(&DIAMOND, 64, &[0; 4], TIMING);
+    let mut state = with_turns_left(&policy, &[(0, 0), (1, 0), (2, 0)]);
+    let log = run_on(&policy, &mut state, &[0; 12]);
+    assert_eq!(owners(&log), [(3, true); 3]);
     // The trial changes nothing: the pointers moved once in each turn.
-    let mut state = fresh(&policy);
-    run_on(&policy, &mut state, &[0; 12]);
     let pointers: Vec<usize> = state.classes.iter().map(|class| class.pointer).collect();
     assert_eq!(pointers, [1, 1, 1, 0]);
 }

@@ -44,8 +44,8 @@ fn a_mark_counts_through_one_to_fifteen_children() {
 }
 
 /// Class 0 below k middle classes, all of those below class k + 1, and one of
-/// them also below class k + 2. The minimums leave class 0 and that one without
-/// turns, so a trial walk can come through at that one alone.
+/// them also below class k + 2. Where class 0 and that one alone have no turns left,
+/// a trial walk can come through at that one alone.
 fn one_way_up(middles: u32, open: u32) -> Policy {
     let (top, other) = (middles + 1, middles + 2);
     let all = (1u32 << (middles + 3)) - 1;
@@ -55,10 +55,7 @@ fn one_way_up(middles: u32, open: u32) -> Policy {
         rows.push((1 << middle | 1 << top | above_open) as u16);
     }
     rows.extend([1u16 << top, 1u16 << other]);
-    let mut minimums = vec![0; rows.len()];
-    minimums[top as usize] = 1;
-    minimums[other as usize] = 1;
-    policy(&rows, 2, &minimums, TIMING)
+    policy(&rows, 64, &vec![0; rows.len()], TIMING)
 }
 
 #[test]
@@ -80,8 +77,11 @@ fn the_trial_walk_moves_a_mark_back_to_1_after_two_to_thirteen_children() {
                     (owner, owner == top && next_to_top)
                 })
                 .collect();
+            // All within one epoch, so that nothing sets the turns left back.
             let turns = expected.len();
-            let log = run_fresh(&policy, &idle(&policy, turns));
+            assert!(turns < 60);
+            let mut state = with_turns_left(&policy, &[(0, 0), (open as usize, 0)]);
+            let log = run_on(&policy, &mut state, &idle(&policy, turns));
             assert_eq!(owners(&log), expected, "{middles} middles, {open} open");
         }
     }

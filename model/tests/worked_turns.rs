@@ -1,5 +1,6 @@
-//! The worked turns (a) to (h) of document 01, and the examples of document
-//! 000's sections 3.2 and 5.1. Marks move by W-201, of which `marks.rs` has more.
+//! The worked turns (a) to (h) of document 01, (c) and (d) as W-202 takes them, and
+//! the examples of document 000's sections 3.2 and 5.1. Marks move by W-201, of which
+//! `marks.rs` has more; `home_turns.rs` has more of W-202.
 
 mod common;
 
@@ -33,9 +34,23 @@ fn b_two_classes_with_minimums_0_and_2() {
     assert_eq!(owners(&log), [epoch, epoch].concat());
 }
 
+/// W-202: "case (c) is taken with E = 3 and minimums 0, 1, 1, where the turn after
+/// 1's is the home turn of 2".
 #[test]
-fn c_after_a_turn_of_1_the_walk_goes_to_2_so_1_keeps_its_dead_time() {
-    // The minimums take up the whole epoch, so class 0 has a cap of 0.
+fn c_after_a_turn_of_1_comes_the_home_turn_of_2_so_1_keeps_its_dead_time() {
+    let policy = policy(&FORK, 3, &[0, 1, 1], TIMING);
+    assert_eq!(policy.caps, [1, 3, 3]);
+    let log = run_fresh(&policy, &always_waiting(&policy, &[0, 1, 2], 6));
+    // 0 may flow to 1, and 1 may not flow to 2; after 2's turn comes one that starts
+    // at 0, which has turns again by its cap.
+    let epoch = [(0, DROPPED), (1, KEPT), (2, KEPT)];
+    assert_eq!(owners(&log), [epoch, epoch].concat());
+}
+
+#[test]
+fn c_with_no_other_turns_than_home_turns() {
+    // The minimums take up the whole epoch, so class 0 has a cap of 0, and after an
+    // epoch's last turn comes a home turn too.
     let policy = policy(&FORK, 2, &[0, 1, 1], TIMING);
     assert_eq!(policy.caps, [0, 2, 2]);
     let log = run_fresh(&policy, &always_waiting(&policy, &[0, 1, 2], 4));
@@ -44,14 +59,14 @@ fn c_after_a_turn_of_1_the_walk_goes_to_2_so_1_keeps_its_dead_time() {
 
 #[test]
 fn c_with_a_cap_that_is_used_up_within_the_epoch() {
-    // E = 4: class 0 takes one turn and its pointer stays (W-201); the rest
-    // alternates between 1 and 2.
+    // E = 4: class 0 takes one turn; then come the home turn of 1 and the two of 2,
+    // of which the first is followed by another of its own.
     let policy = policy(&FORK, 4, &[0, 1, 2], TIMING);
     assert_eq!(policy.caps, [1, 4, 4]);
     let log = run_fresh(&policy, &always_waiting(&policy, &[0, 1, 2], 4));
     assert_eq!(
         owners(&log),
-        [(0, DROPPED), (1, KEPT), (2, KEPT), (1, KEPT)]
+        [(0, DROPPED), (1, KEPT), (2, DROPPED), (2, KEPT)]
     );
 }
 
@@ -59,8 +74,10 @@ fn c_with_a_cap_that_is_used_up_within_the_epoch() {
 fn d_a_chain_of_three_with_minimums_0_1_1() {
     let policy = policy(&CHAIN_OF_THREE, 3, &[0, 1, 1], TIMING);
     let log = run_fresh(&policy, &always_waiting(&policy, &[0, 1], 6));
-    let picked: Vec<u32> = owners(&log).into_iter().map(|(owner, _)| owner).collect();
-    assert_eq!(picked, [0, 1, 1, 0, 1, 1]);
+    // W-202: "Case (d) then gives 0, 1, 2". Each of the first two may flow to the next
+    // turn's home class; after the last, class 0 has turns again.
+    let epoch = [(0, DROPPED), (1, DROPPED), (2, KEPT)];
+    assert_eq!(owners(&log), [epoch, epoch].concat());
 }
 
 #[test]
@@ -129,8 +146,12 @@ fn h_the_file_is_laid_out_as_the_generator_lays_it_out() {
 /// Document 000, section 3.2: an epoch of 2, L (class 0) granted at most one
 /// turn in it. Nothing waits at t0: H. Then L and H have requests: L. In the
 /// second epoch only H has: H, H.
+///
+/// W-202 changes what document 000 tells: with its minimum of 1, H has the second turn
+/// of each epoch as its home turn, and takes it. L, which still waits, has the first
+/// turn of the next epoch, and H the second: H, H, L, H.
 #[test]
-fn section_3_2_owners_h_l_h_h() {
+fn section_3_2_owners_h_h_l_h() {
     let policy = policy(&CHAIN_OF_TWO, 2, &[0, 1], TIMING);
     assert_eq!(policy.caps, [1, 2]);
     let mut list = vec![0; 4];
@@ -138,7 +159,7 @@ fn section_3_2_owners_h_l_h_h() {
     list.extend([read_word(1, 3), read_word(1, 4), 0, 0, 0, 0, 0, 0, 0, 0]);
     let log = run_fresh(&policy, &list);
     let picked: Vec<u32> = owners(&log).into_iter().map(|(owner, _)| owner).collect();
-    assert_eq!(picked, [1, 0, 1, 1]);
+    assert_eq!(picked, [1, 1, 0, 1]);
 }
 
 /// The limit itself: L always waiting has one turn of each two.

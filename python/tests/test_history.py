@@ -56,10 +56,11 @@ class HistoryCase(Case):
 class Examples(HistoryCase):
     def test_turns(self):
         for name, owners, turn in (
-            ("chain-of-three", "0+ 1+ 1 0+ 1+ 2 1 1 2 1", 4),
-            ("diamond", "0+ 1 2 3+ 3 0+ 1 3+ 3", 5),
-            ("two-tenants", "0+ 1 2 0+ 1 2 1", 6),
-            ("two-tenants-busy", "0+ 1 2 0+ 1 2 1", 6),
+            ("chain-of-three", "0+ 1+ 2 0+ 1+ 2 1+ 1+ 2 1+", 4),
+            ("home-turns", "0+ 1+ 2 0+ 1+ 2", 4),
+            ("diamond", "0+ 0+ 1 2+ 3+ 3 1 3 3", 5),
+            ("two-tenants", "0+ 1 2 0+ 1 2 1+", 6),
+            ("two-tenants-busy", "0+ 1 2 0+ 1 2 1+", 6),
             ("single-class", "0+ 0+ 0+ 0+", 12),
         ):
             with self.subTest(name):
@@ -70,14 +71,14 @@ class Examples(HistoryCase):
                 self.assertEqual([epoch for _, epoch, *_ in told.turns], [number // ran.policy.epoch for number in range(len(told.turns))])
 
     def test_turns_left(self):
-        """The chain's caps are 1, 2 and 3; each epoch starts from them."""
+        """The chain's caps are 1, 2 and 3; each epoch starts from them. Home turns cost none, but the one that class 2 owns idle, turn 8."""
         _, told = self.told("chain-of-three")
-        self.assertEqual([left for *_, left in told.turns], [(0, 2, 3), (0, 1, 3), (0, 0, 3), (0, 2, 3), (0, 1, 3), (0, 1, 2), (1, 1, 3), (1, 0, 3), (1, 0, 2), (1, 1, 3)])
+        self.assertEqual([left for *_, left in told.turns], [(0, 2, 3)] * 6 + [(1, 1, 3), (1, 1, 3), (1, 1, 2), (1, 1, 3)])
 
     def test_queue_lengths(self):
-        """Waiting as the turns start: the three late offers of class 1 come in turn 5."""
+        """Waiting as the turns start: the four late offers of class 1 come in turn 5."""
         _, told = self.told("chain-of-three")
-        self.assertEqual([lengths for *_, lengths, _ in told.turns], [(3, 5, 2), (1, 5, 2), (1, 3, 2), (1, 2, 2), (0, 2, 2), (0, 0, 2), (0, 3, 1), (0, 2, 1), (0, 1, 1), (0, 1, 0)])
+        self.assertEqual([lengths for *_, lengths, _ in told.turns], [(3, 5, 2), (1, 5, 2), (1, 3, 2), (1, 3, 1), (0, 3, 1), (0, 1, 1), (0, 5, 0), (0, 3, 0), (0, 1, 0), (0, 1, 0)])
         self.assertEqual(told.lengths, [0, 0, 0])
 
     def test_gaps(self):
@@ -123,24 +124,34 @@ class Generated(HistoryCase):
             self.assertEqual(ticks_of(ran.trace, ran.log), sum(call.ticks for call in calls))
 
     def test_state(self):
-        """A class that owns a turn, with classes above it, waits and had turns left; 11 comes exactly where 8 wait; nothing is activated in a kept dead time."""
-        passed_on = full = kept = 0
+        """A class that owns a turn, with classes above it, waits, and has turns left unless it is its home turn, which it is not charged for; a class that a walk starts at and that does
+        not own the turn does not wait; a dead time is dropped exactly if the owner may flow to the class at which the next turn starts; 11 comes exactly where 8 wait; nothing is
+        activated in a kept dead time."""
+        passed_on = home_turns = full = kept = 0
         for ran in generated(self.library, self.room, 40, 400):
             policy, told = ran.policy, Told(ran.policy).run(ran)
-            for turn, _, owner, _, _, lengths, left in told.turns:
-                before = told.caps if turn % policy.epoch == 0 else told.turns[turn - 1][-1]
+            starts = [policy.least if home is None else home for home in map(policy.home, range(policy.epoch))]
+            for turn, _, owner, elided, _, lengths, left in told.turns:
+                before = list(told.caps if turn % policy.epoch == 0 else told.turns[turn - 1][-1])
+                home, first, following = policy.home(turn), starts[turn % policy.epoch], starts[(turn + 1) % policy.epoch]
+                self.assertEqual(elided, policy.flows(owner, following))
                 if policy.above(owner):
                     self.assertGreater(lengths[owner], 0)
+                if owner == home and lengths[home] > 0:
+                    home_turns += 1
+                else:
                     self.assertGreater(before[owner], 0)
-                    self.assertEqual(left[owner], before[owner] - 1)
-                if owner != policy.least:
+                    before[owner] -= 1
+                self.assertEqual(list(left), before)
+                if owner != first:
                     passed_on += 1
-                    self.assertFalse(lengths[policy.least] > 0 and before[policy.least] > 0)
+                    self.assertEqual(lengths[first], 0)
             for cycle, command, _, inside in told.wires:
                 kept += inside
                 self.assertFalse(inside and command and not command & COLUMN, cycle)
             full += self.check_queues(ran)
         self.assertGreater(passed_on, 100)
+        self.assertGreater(home_turns, 100)
         self.assertGreater(kept, 100)
         self.assertGreater(full, 100)
 

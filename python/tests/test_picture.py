@@ -8,7 +8,7 @@ from vigambul import build
 from vigambul.folders import folder_at, run_folder
 from vigambul.formats import is_column, is_elided, is_offer, owner_of, request_of
 from vigambul.history import calls_of
-from vigambul.picture import BAR_Y, MARKS, ROW, ROWS_Y, rows_of
+from vigambul.picture import BAR_Y, HOME_Y, MARKS, ROW, ROWS_Y, rows_of
 from vigambul.policies import Policy
 
 from .samples import FIVE, FIVE_NAMES, generated, write, write_five
@@ -40,7 +40,8 @@ class Picture:
     def bars(self, kind):
         """The bars of a kind: where they begin, how wide they are, the row, and the words."""
         found = [element for element in self.elements("rect", kind) if element.find(SVG + "title") is not None]
-        return [(float(bar.get("x")), float(bar.get("width")), (float(bar.get("y")) - ROWS_Y - BAR_Y) / ROW, bar.find(SVG + "title").text) for bar in found]
+        top = ROWS_Y + (HOME_Y if kind == "home" else BAR_Y)
+        return [(float(bar.get("x")), float(bar.get("width")), (float(bar.get("y")) - top) / ROW, bar.find(SVG + "title").text) for bar in found]
 
     def place(self, mark, kind):
         """A mark's middle and its row."""
@@ -83,6 +84,10 @@ class PictureCase(Case):
             if not is_elided(call.turn) and begins <= ends:
                 dead.append((picture.left + wide * (begins - first), wide * (ends - begins + 1), rows.index(owner_of(call.turn))))
         self.assert_near([bar[:3] for bar in picture.bars("dead")], dead)
+        homes = [(bar, ran.policy.home(call.cycle // ran.policy.turn), call.cycle // ran.policy.turn) for bar, call in zip(bars, turns)]
+        homes = [(bar, home, turn) for bar, home, turn in homes if home is not None]
+        self.assert_near([bar[:3] for bar in picture.bars("home")], [(x, width, rows.index(home)) for (x, width, _), home, _ in homes])
+        self.assertEqual([bar[3] for bar in picture.bars("home")], ["turn %d: home turn of %s" % (turn, ran.names.of(home)) for _, home, turn in homes])
         self.check_marks(picture, ran, shown, first, wide, rows)
         return picture
 
@@ -127,11 +132,12 @@ class Counted(PictureCase):
                 self.assertIn("%s: cycles 0 to %d" % (name, last), picture.texts)
 
     def test_by_hand(self):
-        """The busy tenants: seven turns, five with their dead time kept; 6 + 8 + 2 offers before cycle 0 and 8 + 1 before cycle 26, the last refused."""
+        """The busy tenants: seven turns, four with their dead time kept, four of them home turns; 6 + 8 + 2 offers before cycle 0 and 8 + 1 before cycle 26, the last refused; the
+        last activate is not answered any more."""
         picture = self.picture(EXAMPLES / "two-tenants-busy")
-        self.assertEqual((len(picture.bars("turn")), len(picture.bars("dead"))), (7, 5))
+        self.assertEqual((len(picture.bars("turn")), len(picture.bars("dead")), len(picture.bars("home"))), (7, 4, 4))
         self.assertEqual((len(picture.marks("offer")), len(picture.words("offer")), len(picture.marks("refusal"))), (4, 24, 1))
-        self.assertEqual((len(picture.marks("activate")), len(picture.marks("answer"))), (15, 15))
+        self.assertEqual((len(picture.marks("activate")), len(picture.marks("answer"))), (16, 15))
         self.assertEqual([element.text for element in picture.elements("text", "count")], ["2", "8", "8", "6"])
         self.assertEqual([text for text in picture.texts if text.startswith("epoch ") and text[6:].isdecimal()], ["epoch 0", "epoch 1", "epoch 2"])
         self.assertEqual(len(picture.elements("line", "epoch")), 3 + 1)

@@ -1,66 +1,161 @@
-"""What `vig policy check` says of minimums, held against runs by the proved library."""
+"""What `vig policy check` says of minimums and home turns, held against runs by the proved library."""
 
-import random
+from collections import deque
 
 from vigambul import build
-from vigambul.formats import Request, owner_of, starts_turn
-from vigambul.minimums import class_words, minimum_words, sure_turns
+from vigambul.draws import Draws
+from vigambul.figures import figures_of
+from vigambul.folders import folder_at, run_folder
+from vigambul.formats import Request, class_of
+from vigambul.history import Replay
+from vigambul.minimums import class_words, minimum_words, plan_words, wait_words
 from vigambul.policies import Names, Policy
 
+from .samples import a_policy, generated, write
 from .support import Case
-from .test_policy_text import any_order, closed
 
 TIMING = [4, 2, 2, 2, 2, 2, 2, 2, 1, 2]
-EPOCHS = 3
+CHAIN, CHAIN_NAMES = Policy([7, 6, 4], 3, [0, 1, 1], TIMING), Names({0: "low", 1: "middle", 2: "high"})
 
 
-def owners(library, policy, offering):
-    """The owners of some epochs' turns, where `offering` says for each turn which classes offer as many requests as their queues take before it starts."""
-    trace = []
-    for turn in range(EPOCHS * policy.epoch):
-        for number in offering(turn):
-            trace += [Request(number, 0, 0, 0).word] * 8
-        trace += [0] * policy.turn
-    status, log = library.run(policy.to_bytes(), trace)
-    assert status == 0
-    return [owner_of(turn) for turn in log[3::4] if starts_turn(turn)]
+class Turns(Replay):
+    """Keeps of each turn its owner, which classes wait as it starts, and, once it is over, whether the owner's oldest request of its start went out: None where none waits, or the
+    run ends before."""
+
+    def __init__(self, policy):
+        super().__init__(policy)
+        self.owners, self.waiting, self.went = [], [], []
+        self.queues = [deque() for _ in range(policy.classes)]
+        self.oldest, self.gone = None, False
+
+    def taken(self, word):
+        self.queues[class_of(word)].append((word, self.cycle))
+
+    def turn_started(self):
+        self.owners.append(self.owner)
+        self.waiting.append([length > 0 for length in self.lengths])
+        queue = self.queues[self.owner]
+        self.oldest, self.gone = queue[0] if queue else None, False
+
+    def activated(self, word, offered):
+        self.gone = self.gone or (word, offered) == self.oldest
+        self.queues[self.owner].remove((word, offered))
+
+    def turn_ended(self):
+        over = self.cycle == (self.turn + 1) * self.policy.turn
+        self.went.append(self.gone if over and self.oldest else None)
 
 
-def by_epoch(policy, numbers):
-    return [numbers[first : first + policy.epoch] for first in range(0, len(numbers), policy.epoch)]
+class Plan(Case):
+    def test_home_turns(self):
+        """The last turns of an epoch, class by class, each as often as its minimum; the next epoch has the same plan."""
+        for number in range(200):
+            policy = a_policy(Draws("plan", number))
+            homes = [i for i in range(policy.classes) for _ in range(policy.minimums[i])]
+            plan = [None] * (policy.epoch - len(homes)) + homes
+            self.assertEqual([policy.home(turn) for turn in range(3 * policy.epoch)], 3 * plan)
+            for i in range(policy.classes):
+                self.assertEqual(list(policy.home_turns(i)), [turn for turn in range(policy.epoch) if plan[turn] == i])
+
+    def test_words(self):
+        self.assertEqual(plan_words(CHAIN, CHAIN_NAMES), "The turns of an epoch, from 0 on: 0 starts at low, the least class; home turns are 1 of middle, 2 of high.")
+        for epoch, minimums, words in (
+            (8, [0, 2, 3], "0 to 2 start at low, the least class; home turns are 3 and 4 of middle, 5 to 7 of high."),
+            (2, [0, 0, 0], "0 and 1 start at low, the least class; there are no home turns."),
+            (4, [1, 0, 3], "home turns are 0 of low, 1 to 3 of high."),
+        ):
+            self.assertEqual(plan_words(Policy([7, 6, 4], epoch, minimums, TIMING), CHAIN_NAMES), "The turns of an epoch, from 0 on: " + words)
 
 
-class Minimums(Case):
-    def test_what_is_said_to_be_sure_is_owned(self):
-        """A class that waits at every turn's start owns at least what is said, whatever the others do."""
-        library, random_numbers = build.library(), random.Random(7)
-        tried = 0
-        while tried < 120:
-            rows = any_order(random_numbers) if random_numbers.random() < 0.5 else closed(4, [(0, 1), (1, 2), (2, 3)])
-            epoch = random_numbers.randint(1, 9)
-            minimums = [0] * len(rows)
-            for _ in range(random_numbers.randint(0, epoch)):
-                minimums[random_numbers.randrange(len(rows))] += 1
-            policy = Policy(rows, epoch, minimums, TIMING)
-            number = random_numbers.randrange(len(rows))
-            sure = sure_turns(policy, number)
-            if not sure:
-                continue
-            tried += 1
-            share = random_numbers.random()
-            found = owners(library, policy, lambda turn: [i for i in range(policy.classes) if i == number or random_numbers.random() < share])
-            for turns in by_epoch(policy, found):
-                self.assertGreaterEqual(turns.count(number), sure, (policy, number))
+class Promises(Case):
+    """Each promise on generated runs, with counts of how often it came to bear."""
 
-    def test_a_class_with_a_minimum_and_no_turn(self):
-        """Document 01's case (d)."""
-        policy, names = Policy([7, 6, 4], 3, [0, 1, 1], TIMING), Names({0: "low", 1: "middle", 2: "high"})
-        found = owners(build.library(), policy, lambda turn: [0, 1, 2])
-        self.assertEqual(found, [0, 1, 1] * EPOCHS)
-        self.assertEqual(sure_turns(policy, 2), 0)
-        self.assertEqual(class_words(policy, names, 2), "high, minimum 1: no turn is kept for it: the caps below it come to 1 + 2 = 3, and an epoch has 3 turns")
+    @classmethod
+    def setUpClass(cls):
+        super().setUpClass()
+        cls.library = build.library()
 
-    def test_the_least_class_and_no_minimum(self):
-        names = Names({0: "low", 1: "high"})
-        self.assertIn("low, minimum 2: the least class, which is tried first", "\n".join(minimum_words(Policy([3, 2], 4, [2, 0], TIMING), names)))
-        self.assertEqual(minimum_words(Policy([3, 2], 4, [0, 0], TIMING), names)[-1], "Here no class has a minimum: every cap is the epoch, 4.")
+    def runs(self):
+        for ran in generated(self.library, self.room, 60, 500):
+            yield ran, ran.policy, Turns(ran.policy).run(ran)
+
+    def test_at_least_the_minimum_and_at_most_the_cap(self):
+        """With a request waiting at all its home turns of an epoch a class owns its minimum or more, also where a class below it waits at every turn; and never more than its cap."""
+        owed = below_busy = capped = 0
+        for ran, policy, turns in self.runs():
+            figures = figures_of(ran)
+            for number in range(policy.classes):
+                for epoch, owned in enumerate(figures.turns_in_epochs(number)):
+                    starts = turns.waiting[epoch * policy.epoch : (epoch + 1) * policy.epoch]
+                    self.assertLessEqual(owned, policy.cap(number))
+                    capped += owned == policy.cap(number) < policy.epoch
+                    if policy.minimums[number] and all(starts[turn][number] for turn in policy.home_turns(number)):
+                        self.assertGreaterEqual(owned, policy.minimums[number])
+                        owed += 1
+                        below_busy += any(all(start[other] for start in starts) for other in policy.below(number))
+                if figures.part:
+                    self.assertLessEqual(figures.part[number], policy.cap(number))
+        self.assertGreater(owed, 200)
+        self.assertGreater(below_busy, 50)
+        self.assertGreater(capped, 20)
+
+    def test_a_turn_of_its_own_within_an_epoch(self):
+        """With a minimum and a request waiting as a turn starts, one of as many turns as an epoch has, from that one on, is its own."""
+        waits = last = 0
+        for _, policy, turns in self.runs():
+            for first in range(len(turns.owners) - policy.epoch + 1):
+                owners = turns.owners[first : first + policy.epoch]
+                for number in range(policy.classes):
+                    if policy.minimums[number] and turns.waiting[first][number]:
+                        self.assertIn(number, owners)
+                        waits += 1
+                        last += owners.index(number) == policy.epoch - 1
+        self.assertGreater(waits, 500)
+        self.assertGreater(last, 50)
+
+    def test_the_oldest_request_goes_out(self):
+        """In a turn of its class that is ticked to its end, where turns are at least twice the dead time; where they are shorter it may not."""
+        went = late = 0
+        for _, policy, turns in self.runs():
+            enough = policy.turn >= 2 * policy.dead
+            self.assertEqual("not promised" in wait_words(policy)[1], not enough)
+            if enough:
+                self.assertNotIn(False, turns.went)
+                went += turns.went.count(True)
+            else:
+                late += turns.went.count(False)
+        self.assertGreater(went, 200)
+        self.assertGreater(late, 5)
+
+    def test_a_class_that_had_no_turn(self):
+        """Document 01's case (d), with all three waiting: the owners were 0, 1, 1 before request W-202."""
+        trace = [Request(number, 0, 0, 0).word for number in range(3) for _ in range(8)] + [0] * 24
+        ran = run_folder(self.library, folder_at(write(self.room / "d", CHAIN, trace)))
+        self.assertEqual(Turns(CHAIN).run(ran).owners, [0, 1, 2, 0, 1, 2])
+
+
+class Words(Case):
+    def test_of_a_class(self):
+        self.assertEqual(
+            class_words(CHAIN, CHAIN_NAMES, 2),
+            "high, minimum 1: home turn 2 of 0 to 2. It owns at least 1 turn of an epoch in which it has a request waiting as that turn starts, and at most 3 of any, its cap",
+        )
+        for minimums, words in (
+            ([2, 0, 0], "low, minimum 2: home turns 2 and 3 of 0 to 3. It owns at least 2 turns of an epoch in which it has a request waiting as both of these start, and at most 4 "),
+            ([3, 0, 1], "low, minimum 3: home turns 0 to 2 of 0 to 3. It owns at least 3 turns of an epoch in which it has a request waiting as each of these starts, and at most 3 "),
+            ([4, 0, 0], "low, minimum 4: every turn is its home turn. It owns at least 4 turns of an epoch in which it has a request waiting as each of these starts, and at most 4 "),
+        ):
+            self.assertTrue(class_words(Policy([7, 6, 4], 4, minimums, TIMING), CHAIN_NAMES, 0).startswith(words), words)
+
+    def test_of_the_wait(self):
+        own, goes = wait_words(CHAIN)
+        self.assertEqual(own, "A class with a minimum that has a request waiting as a turn starts owns one of the 3 turns (12 cycles) from that one on, as far as the run goes")
+        self.assertEqual(goes, "A turn (4 cycles) is at least twice the dead time (2), so the oldest request of the class goes out in that turn of its own")
+        own, goes = wait_words(Policy([1], 1, [1], [3, 2, *TIMING[2:]]))
+        self.assertEqual(own, "A class with a minimum that has a request waiting as a turn starts owns that turn (3 cycles), as far as the run goes")
+        self.assertEqual(goes, "A turn (3 cycles) is less than twice the dead time (2), so it is not promised that the oldest request of the class goes out in that turn of its own")
+
+    def test_without_minimums(self):
+        lines = minimum_words(Policy([3, 2], 4, [0, 0], TIMING), CHAIN_NAMES)
+        self.assertIn("there are no home turns, nobody is guaranteed a turn", lines[-1])
+        self.assertTrue(lines[-1].endswith("every cap is the epoch, 4."))

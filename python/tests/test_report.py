@@ -87,9 +87,9 @@ class Numbers(Case):
         self.assertEqual((service.turns, service.idle, service.elided, service.activates), (4, 1, 4, 8))
 
     def test_late_offers(self):
-        """The chain's class 1 has three late offers, before cycle 22: answered in cycles 26, 30 and 38, after 4, 8 and 16."""
+        """The chain's class 1 has four late offers, before cycle 22: answered in cycles 28, 30, 32 and 38, after 6, 8, 10 and 16."""
         waits = self.figures("chain-of-three").services[1].waits
-        self.assertEqual(sorted(waits.elements()), sorted([6, 8, 10, 18, 20, 4, 8, 16]))
+        self.assertEqual(sorted(waits.elements()), sorted([6, 8, 18, 20, 26, 6, 8, 10, 16]))
 
     def test_idle(self):
         """Tenant 2 owns two turns and uses none; where it is busy, both."""

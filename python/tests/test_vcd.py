@@ -92,17 +92,19 @@ class VcdCase(Case):
         return Dump((self.room / "out.vcd").read_text())
 
     def check(self, ran, dump):
-        """Each cycle of the dump against the log. Queue lengths and turns left are counted here on their own."""
+        """Each cycle of the dump against the log. Queue lengths and turns left are counted here on their own: a class is charged for the turns that it owns, but not for a home turn
+        of its own that starts with a request waiting."""
         policy, names = ran.policy, identifiers(ran.names, ran.policy.classes)
         lengths, caps = [0] * policy.classes, [policy.cap(number) for number in range(policy.classes)]
-        owners, elided = [], False
+        owners, charged, elided = [], [], False
         for call in calls_of(ran.trace, ran.log):
             if call.ticks:
                 if call.turn:
                     owners.append(owner_of(call.turn))
-                    elided = is_elided(call.turn)
+                    home, elided = policy.home(call.cycle // policy.turn), is_elided(call.turn)
+                    charged.append(None if home == owners[-1] and lengths[home] > 0 else owners[-1])
                 wanted = self.values_of(call, policy, names, owners, elided)
-                this_epoch = owners[len(owners) - 1 - (len(owners) - 1) % policy.epoch :]
+                this_epoch = charged[len(charged) - 1 - (len(charged) - 1) % policy.epoch :]
                 for number, name in enumerate(names):
                     wanted["queue." + name] = lengths[number]
                     wanted["turns_left." + name] = max(0, caps[number] - this_epoch.count(number))
@@ -151,13 +153,14 @@ class Compared(VcdCase):
             self.check(ran, dump)
 
     def test_by_hand(self):
-        """The busy tenants in cycle 7: the turn is red's, its column command goes out, and the base's third read is answered."""
+        """The busy tenants in cycle 7: the turn is red's home turn, its column command goes out, and the base's third read is answered. The base is charged for turn 0, red not for
+        its home turn."""
         values = {path.removeprefix("vigambul."): value for path, value in self.dump(EXAMPLES / "two-tenants-busy").cycles[7].items()}
         self.assertEqual((values["turn"], values["epoch"], text_of(values["owner.name"])), (1, 0, "red"))
         self.assertEqual((values["command.activate"], values["command.column"], text_of(values["command.name"]), values["command.bank"]), (0, 1, "red", 0))
         self.assertEqual((values["answer.valid"], text_of(values["answer.name"]), values["answer.tag"]), (1, "base", 3))
         self.assertEqual((values["queue.base"], values["queue.red"], values["queue.blue"]), (3, 7, 2))
-        self.assertEqual((values["turns_left.base"], values["turns_left.red"], values["turns_left.blue"]), (0, 2, 3))
+        self.assertEqual((values["turns_left.base"], values["turns_left.red"], values["turns_left.blue"]), (0, 3, 3))
 
     def test_no_ticks(self):
         """Only the values before the first cycle: what waits is shown."""

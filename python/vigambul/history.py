@@ -1,5 +1,5 @@
 """A log told from its start on: the calls with their cycles, and what they did: turns, requests from their offers to their answers, queue lengths, turns left. Everything is
-read off the trace and the log; no rule of the scheduler is worked out here again. A trace may have 17,000,000 numbers: nothing is kept for each."""
+read off the trace and the log; the one rule that is worked out here again is who is charged for a turn. A trace may have 17,000,000 numbers: nothing is kept for each."""
 
 from collections import deque
 from typing import NamedTuple
@@ -57,8 +57,8 @@ def calls_of(trace, log):
 
 class Replay:
     """Goes through a run once and tells what happens by the methods from `refused` to `ticked`, which do nothing here: one who wants to know overrides them. In them,
-    `cycle` is the cycle under way (of an offer: next to be ticked), `lengths` and `left` are the queue lengths and the turns left of each class, `turn`, `owner` and `elided`
-    are of the turn under way (-1, None and False before the first)."""
+    `cycle` is the cycle under way (of an offer: next to be ticked), `lengths` and `left` are the queue lengths and the turns left of each class, `turn`, `owner`, `home`
+    and `elided` are of the turn under way (-1, None, None and False before the first); `home` is the class whose home turn it is, or None."""
 
     def __init__(self, policy):
         self.policy = policy
@@ -66,7 +66,8 @@ class Replay:
         self.lengths = [0] * policy.classes
         self.caps = [policy.cap(number) for number in range(policy.classes)]
         self.left = list(self.caps)
-        self.turn, self.owner, self.elided = -1, None, False
+        self.plan = [policy.home(turn) for turn in range(policy.epoch)]
+        self.turn, self.owner, self.home, self.elided = -1, None, None, False
         # Requests by class, oldest first, and those activated and not yet answered: a word and the cycle of its offer.
         self._waiting = [deque() for _ in range(policy.classes)]
         self._flying = deque()
@@ -92,7 +93,7 @@ class Replay:
         """An offer was taken; its queue is the longer by it already."""
 
     def turn_started(self):
-        """A turn starts: whose it is, and its dead time, are known, and the owner is charged."""
+        """A turn starts: whose it is, and its dead time, are known, and the owner is charged where it is."""
 
     def turn_ended(self):
         """The last cycle of a turn, or of the run, is over; `cycle` is the one after it, and all else is still the turn's."""
@@ -139,14 +140,16 @@ class Replay:
         self.taken(word)
 
     def _start(self, turn):
-        """Turns left are the caps as an epoch starts, and the owner's fall by 1, not below 0."""
+        """Turns left are the caps as an epoch starts, and the owner's fall by 1, not below 0, unless it is a home class that has a request waiting as its home turn starts."""
         if self.turn >= 0:
             self.turn_ended()
         self.turn = self.cycle // self.policy.turn
-        self.owner, self.elided = owner_of(turn), is_elided(turn)
-        if self.turn % self.policy.epoch == 0:
+        place = self.turn % self.policy.epoch
+        self.owner, self.home, self.elided = owner_of(turn), self.plan[place], is_elided(turn)
+        if place == 0:
             self.left = list(self.caps)
-        self.left[self.owner] = max(0, self.left[self.owner] - 1)
+        if self.home is None or self.lengths[self.home] == 0:
+            self.left[self.owner] = max(0, self.left[self.owner] - 1)
         self.turn_started()
 
     def _command(self, command):

@@ -1,53 +1,64 @@
-"""What a minimum does and does not guarantee under the rules in force: document 01, where minimums act only through caps. The one place that says it: a request that changes
-the rules changes this text."""
+"""What a minimum does and guarantees under the rules in force: document 01 with request W-202 of document 02. The one place that says it: a request that changes the rules
+changes this text."""
 
 from .words import counted
 
+RULE = """The last turns of an epoch, as many as the minimums add up to, are home turns: class by class in rising number, each class as often as its minimum. A home turn is
+its class's if a request of that class waits as the turn starts; that needs no turns left and costs none. If none waits, the turn goes on up from that class (one with
+nothing above it keeps the turn), and is not saved up. All other turns start at the least class. A minimum also lowers the cap of each class strictly below by as many
+turns: a cap is the epoch less the minimums of all classes strictly above, and no class owns more turns of an epoch than its cap. A minimum of 0 guarantees nothing."""
 
-def past_below(policy, number):
-    """How many turns of an epoch the classes strictly below a class cannot take. Each of them has something above it, so it takes no more turns than its cap."""
-    return max(0, policy.epoch - sum(policy.cap(other) for other in policy.below(number)))
-
-
-def beside(policy, number):
-    """The classes that a class is kept apart from: neither may flow to the other."""
-    return [other for other in range(policy.classes) if not policy.flows(number, other) and not policy.flows(other, number)]
+# When a request of a class must wait, by the number of its home turns.
+STARTS = {1: "as that turn starts", 2: "as both of these start"}
 
 
-def sure_turns(policy, number):
-    """How many turns of an epoch a class owns at least, if it has a request waiting at every turn's start; None where the caps do not say. With no class beside it, every turn
-    that the classes below cannot take comes to it, since the walk has no way past it."""
-    return None if beside(policy, number) else min(past_below(policy, number), policy.cap(number))
+def given(policy):
+    """The classes with a minimum."""
+    return [number for number in range(policy.classes) if policy.minimums[number]]
 
 
-RULE = """A minimum lowers the cap of every class strictly below by as many turns, and does nothing else: the cap of a class is the epoch less the minimums of all classes
-strictly above it, and no class owns more turns of an epoch than its cap. A minimum gives its own class no turn: the walk begins at the least class, and a class
-gets what those below it leave. Document 01's case (d) is a class with a minimum of 1 and no turn in an epoch. Turns that are not taken are not saved up."""
+def places(turns):
+    """Turns of an epoch in a row, in words: '4', '4 and 5', '4 to 7'."""
+    first, last = turns[0], turns[-1]
+    return str(first) if first == last else "%d %s %d" % (first, "and" if last == first + 1 else "to", last)
+
+
+def plan_words(policy, names):
+    """Where the walk of each turn of an epoch starts."""
+    parts = []
+    if policy.free_turns:
+        starts = "starts" if policy.free_turns == 1 else "start"
+        parts.append("%s %s at %s, the least class" % (places(range(policy.free_turns)), starts, names.of(policy.least)))
+    homes = ["%s of %s" % (places(policy.home_turns(number)), names.of(number)) for number in given(policy)]
+    parts.append("home turns are %s" % ", ".join(homes) if homes else "there are no home turns")
+    return "The turns of an epoch, from 0 on: %s." % "; ".join(parts)
 
 
 def class_words(policy, names, number):
-    """What a class with a minimum may count on."""
-    below, past, others = policy.below(number), past_below(policy, number), beside(policy, number)
-    head = "%s, minimum %d: " % (names.of(number), policy.minimums[number])
-    if not below:
-        return head + "the least class, which is tried first in every turn: with requests waiting it owns its turns up to its cap, %d" % policy.cap(number)
-    caps = [policy.cap(other) for other in below]
-    added = str(caps[0]) if len(below) == 1 else "%s = %d" % (" + ".join(map(str, caps)), sum(caps))
-    if past == 0:
-        return head + "no turn is kept for it: the caps below it come to %s, and an epoch has %s" % (added, counted(policy.epoch, "turn"))
-    kept = "the caps below it come to %s, so %d of %s at least are left" % (added, past, counted(policy.epoch, "turn"))
-    if others:
-        return head + "%s; marks share these with %s, and the minimum does not say how many are whose" % (kept, ", ".join(names.of(other) for other in others))
-    sure = sure_turns(policy, number)
-    verdict = "so the minimum is met" if sure >= policy.minimums[number] else "which is less than the minimum"
-    return head + "%s: with a request waiting at every turn's start it owns %d or more, %s" % (kept, sure, verdict)
+    """What a class with a minimum may count on in an epoch."""
+    minimum = policy.minimums[number]
+    homes = "%s %s of %s" % ("home turn" if minimum == 1 else "home turns", places(policy.home_turns(number)), places(range(policy.epoch)))
+    if minimum == policy.epoch:
+        homes = "every turn is its home turn"
+    least = "at least %s of an epoch in which it has a request waiting %s" % (counted(minimum, "turn"), STARTS.get(minimum, "as each of these starts"))
+    return "%s, minimum %d: %s. It owns %s, and at most %d of any, its cap" % (names.of(number), minimum, homes, least, policy.cap(number))
+
+
+def wait_words(policy):
+    """How long a class with a minimum waits for a turn of its own, and for its request to go out: the same for all of them."""
+    turns = "that turn (%s)" if policy.epoch == 1 else "one of the %d turns (%%s) from that one on" % policy.epoch
+    own = "A class with a minimum that has a request waiting as a turn starts owns %s, as far as the run goes" % (turns % counted(policy.epoch * policy.turn, "cycle"))
+    enough = policy.turn >= 2 * policy.dead
+    length = "A turn (%s) is %s twice the dead time (%d)" % (counted(policy.turn, "cycle"), "at least" if enough else "less than", policy.dead)
+    goes = "the oldest request of the class goes out in that turn of its own"
+    return [own, "%s, so %s%s" % (length, "" if enough else "it is not promised that ", goes)]
 
 
 def minimum_words(policy, names):
     """The rule, and what it comes to for each class with a minimum."""
     lines = RULE.splitlines()
-    given = [number for number in range(policy.classes) if policy.minimums[number]]
-    if not given:
-        return lines + ["Here no class has a minimum: every cap is the epoch, %d." % policy.epoch]
-    lines += ["Here, in each whole epoch:"] + ["- %s." % class_words(policy, names, number) for number in given]
-    return lines
+    if not given(policy):
+        none = "Here no class has a minimum: there are no home turns, nobody is guaranteed a turn (a class gets what those below it leave), and every cap is the epoch, %d."
+        return lines + [none % policy.epoch]
+    promises = [class_words(policy, names, number) for number in given(policy)] + wait_words(policy)
+    return lines + ["Here, in every run and whatever the other classes do:"] + ["- %s." % promise for promise in promises]

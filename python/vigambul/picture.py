@@ -1,5 +1,5 @@
-"""A run as a picture, SVG written directly: a row for each class, turns as bars in their owner's row, and marks for what happened to requests. Shapes tell the marks apart, so that
-it reads in print and without colours; the colours are those of Okabe and Ito, which colour-blind people can tell apart."""
+"""A run as a picture, SVG written directly: a row for each class, turns as bars in their owner's row, lines for home turns in their class's row, and marks for what happened to
+requests. Shapes tell the marks apart, so that it reads in print and without colours; the colours are those of Okabe and Ito, which colour-blind people can tell apart."""
 
 from collections import defaultdict, deque
 from dataclasses import dataclass
@@ -23,7 +23,8 @@ NAMES_AGAIN = 1000
 MARGIN = 16
 TITLE_Y, SUBTITLE_Y, EPOCH_Y, TURN_Y, ROWS_Y = 28, 47, 76, 92, 100
 ROW = 66
-REFUSED_Y, OFFER_Y, BAR_Y, BAR, ANSWER_Y = 9, 22, 30, 20, 58
+REFUSED_Y, OFFER_Y, HOME_Y, BAR_Y, BAR, ANSWER_Y = 9, 22, 27, 30, 20, 58
+HOME = 2
 AXIS = 40
 LEGEND = 34
 # The width of a character of the title, the names and the small texts, a little more than what fonts take.
@@ -34,6 +35,7 @@ MARKS = {"offer": OFFER_Y, "refusal": REFUSED_Y, "activate": BAR_Y + BAR // 2, "
 LEGENDS = (
     ("turn", "turn, in its owner's row"),
     ("dead", "dead time kept: no activate"),
+    ("home", "home turn, in its class's row"),
     ("offer", "offer taken"),
     ("refusal", "call refused"),
     ("activate", "activate"),
@@ -51,6 +53,7 @@ text { font-family: Helvetica, Arial, 'DejaVu Sans', sans-serif; font-size: 11px
 .stripe { fill: #F3F5F7; }
 .turn { fill: #BFDDF2; stroke: #0072B2; stroke-width: 1; }
 .dead { fill: url(#hatch); stroke: #0072B2; stroke-width: 1; }
+.home { fill: #CC79A7; }
 .flight { fill: none; stroke: #009E73; stroke-width: 1; }
 .offer { fill: #333333; }
 .refusal { fill: none; stroke: #D55E00; stroke-width: 2; }
@@ -68,10 +71,11 @@ HATCH = (
 
 @dataclass
 class Bar:
-    """A turn: its first cycle, the first of its dead time, and the last that was ticked."""
+    """A turn: its owner, the class whose home turn it is, or None, its first cycle, the first of its dead time, and the last that was ticked."""
 
     number: int
     owner: int
+    home: int
     elided: bool
     first: int
     dead: int
@@ -115,7 +119,7 @@ class Events(Replay):
 
     def turn_ended(self):
         if self._began <= self.last and self.cycle > self.first:
-            self.bars.append(Bar(self.turn, self.owner, self.elided, self._began, self.dead_from, self.cycle - 1))
+            self.bars.append(Bar(self.turn, self.owner, self.home, self.elided, self._began, self.dead_from, self.cycle - 1))
 
     def activated(self, word, offered):
         flight = Flight(self.owner, self.cycle)
@@ -264,6 +268,9 @@ class Drawing:
         dead = max(first, bar.dead)
         if not bar.elided and dead <= last:
             self.parts.append(element("rect", title, kind="dead", x=self.x(dead), y=y, width=self.wide * (last - dead + 1), height=BAR))
+        if bar.home is not None:
+            title = title_of("turn %d: home turn of %s" % (bar.number, self.names.of(bar.home)))
+            self.parts.append(element("rect", title, kind="home", x=self.x(first), y=self.y(bar.home) + HOME_Y, width=self.wide * (last - first + 1), height=HOME))
 
     def _flight(self, flight):
         """A line from the activate's place down and on to the answer's, as far as the range goes."""
@@ -305,6 +312,8 @@ class Drawing:
                 self.parts.append(element("line", kind=kind, x1=x + 8, y1=y - 13, x2=x + 8, y2=y + 5))
             elif kind == "flight":
                 self.parts.append(element("path", kind=kind, d="M%s %sH%s" % (coordinate(x), coordinate(y - 4), coordinate(x + 18))))
+            elif kind == "home":
+                self.parts.append(element("rect", kind=kind, x=x, y=y - 5, width=20, height=HOME))
             else:
                 self.parts.append(element("rect", kind=kind, x=x, y=y - 12, width=20, height=14))
             self.parts.append(text(x + 26, y, words))

@@ -1,5 +1,5 @@
 """A policy file as a value: its three bodies, its bytes, and the names of its classes. Whether a file is taken is the proved reader's answer; what is worked out here
-(caps, covers) is for showing alone."""
+(caps, covers, the plan of home turns) is for showing alone."""
 
 import re
 from dataclasses import dataclass, field
@@ -50,6 +50,10 @@ class Policy:
         """The classes strictly below class i."""
         return [j for j in range(self.classes) if j != i and self.flows(j, i)]
 
+    def beside(self, i):
+        """The classes that class i is kept apart from: neither may flow to the other."""
+        return [j for j in range(self.classes) if not self.flows(i, j) and not self.flows(j, i)]
+
     def covers(self, i):
         """The classes directly above class i. Document 01: its children."""
         above = self.above(i)
@@ -58,6 +62,21 @@ class Policy:
     def cap(self, i):
         """The turns that class i may take in an epoch."""
         return self.epoch - sum(self.minimums[j] for j in self.above(i))
+
+    @property
+    def free_turns(self):
+        """How many turns of an epoch, its first, are no home turns: their walks start at the least class."""
+        return self.epoch - sum(self.minimums)
+
+    def home_turns(self, i):
+        """The home turns of class i, by their places in an epoch, from 0: the home turns go class by class in rising number, each as often as its minimum."""
+        first = self.free_turns + sum(self.minimums[:i])
+        return range(first, first + self.minimums[i])
+
+    def home(self, turn):
+        """The class whose home turn a turn is, by the turn's number in a run; None where it is no home turn."""
+        place = turn % self.epoch
+        return next((i for i in range(self.classes) if place in self.home_turns(i)), None)
 
     @property
     def least(self):

@@ -1,6 +1,6 @@
-"""What a policy means, for the person who signs it off: the flows as a table and in words, minimums and caps, the timing."""
+"""What a policy means, for the person who signs it off: the flows as a table and in words, minimums, caps and home turns, the timing."""
 
-from .minimums import beside, minimum_words
+from .minimums import minimum_words, plan_words
 from .policies import TIMING
 from .tables import aligned
 
@@ -32,7 +32,7 @@ def flow_words(policy, names):
     """The flows once more, class by class, with those that a class is kept apart from."""
     lines = []
     for number in range(policy.classes):
-        above, apart = policy.above(number), beside(policy, number)
+        above, apart = policy.above(number), policy.beside(number)
         to = "%s may flow to %s" % (names.of(number), _names(above, names) + " and itself" if above else "itself alone")
         if number == policy.least:
             to += " (the least class)"
@@ -55,8 +55,8 @@ def sign_off(policy, names):
     """All of it, as lines."""
     parts = (
         ("Flows: a class in a row may flow to the classes with a yes", flow_table(policy, names) + [""] + flow_words(policy, names)),
-        ("Turns: an epoch of %d; minimums add up to %d" % (policy.epoch, sum(policy.minimums)), turn_table(policy, names)),
-        ("What a minimum does, and does not do", minimum_words(policy, names)),
+        ("Turns: an epoch of %d; minimums add up to %d" % (policy.epoch, sum(policy.minimums)), turn_table(policy, names) + ["", plan_words(policy, names)]),
+        ("What a minimum does and guarantees", minimum_words(policy, names)),
         ("Timing, in cycles", timing_table(policy)),
     )
     lines = []

@@ -116,7 +116,7 @@ class Signals:
 
 class Waveform(Replay):
     """Writes a run to a file as a value change dump. In the time of a cycle: the command and the answer of its tick, the turn that it lies in, the turns left once that
-    turn's owner was charged, and the queue lengths as the tick finds them, offers before it counted and its own activate not yet taken away."""
+    turn's owner was charged for it, where it is, and the queue lengths as the tick finds them, offers before it counted and its own activate not yet taken away."""
 
     def __init__(self, policy, names, file):
         super().__init__(policy)

@@ -6,7 +6,7 @@ use mathlib.Core.Logic.{_⊎_, inl, inr, ⊎-elim}
 use mathlib.Core.Bool.{Bool, true, false, cond, _&&_, _||_, false≢true}
 use mathlib.Core.List.{_∷_}
 use Prim.Native.Nat.{ℕ, zero, suc, _+_, _^_, _-_, _≤_, _<_, zero-le, suc-le-suc}
-use native.Mathlib.Nat.{le-of-suc-le-suc, not-suc-le-zero, eq-or-lt-of-le, le-refl, add-zero, add-le-add, add-lt-add-of-le-of-lt, add-lt-add-of-lt-of-le}
+use native.Mathlib.Nat.{lt-irrefl, le-of-suc-le-suc, not-suc-le-zero, eq-or-lt-of-le, le-refl, add-zero, add-le-add, add-lt-add-of-le-of-lt, add-lt-add-of-lt-of-le}
 use native.Mathlib.Numerals.{add-one}
 use native.Mathlib.Omega.{arith}
 use borrow.Author.Tests.{lt-ltb, le-ltb}
@@ -135,6 +135,11 @@ module _ (f : ℕ → Bool) where
   count-all-fail zero h = refl
   count-all-fail (suc n) h = rw (h n (le-refl (suc n))) (omega (arith, count-all-fail n (λ i l. h i (omega arith))))
 
+  pub count-all-pass : (n : ℕ) → ((i : ℕ) → i < n → f i ≡ true) → count n f ≡ n
+  unfolding count sum
+  count-all-pass zero h = refl
+  count-all-pass (suc n) h = rw (h n (le-refl (suc n))) (omega (arith, count-all-pass n (λ i l. h i (omega arith))))
+
   -- more numbers, no fewer that pass
   pub count-grows : (n : ℕ) → count n f ≤ count (n + 1) f
   count-grows n = ⊎-elim (λ t. omega (arith, count-yes n t)) (λ t. omega (arith, count-no n t)) (either (f n))
@@ -233,6 +238,17 @@ module _ (f g : ℕ → Bool) where
 
 -- ---- sums
 
+-- where two tests never pass together, they pass at no more numbers than there are
+pub count-apart : (f g : ℕ → Bool) (n : ℕ) → ((i : ℕ) → i < n → f i ≡ true → g i ≡ true → ⊥) → count n f + count n g ≤ n
+unfolding count sum
+count-apart f g zero h = zero-le
+count-apart f g (suc n) h =
+    let rest = count-apart f g n (λ i l. h i (omega arith)) in
+    ⊎-elim
+    (λ t. let other : g n ≡ false = false-unless (g n) (h n (le-refl (suc n)) t) in rw (t, other) (omega (arith, rest)))
+    (λ (t : f n ≡ false). ⊎-elim (λ (u : g n ≡ true). rw (t, u) (omega (arith, rest))) (λ (u : g n ≡ false). rw (t, u) (omega (arith, rest))) (either (g n)))
+    (either (f n))
+
 pub sum-under : (f g : ℕ → ℕ) (n : ℕ) → ((i : ℕ) → i < n → f i ≤ g i) → sum n f ≤ sum n g
 unfolding sum
 sum-under f g zero h = zero-le
@@ -258,6 +274,53 @@ module _ (g : ℕ → ℕ) where
   pub sum-more : (n : ℕ) → sum (n + 1) g ≡ sum n g + g n
   unfolding sum
   sum-more n = rw add-one refl
+
+-- a sum in two parts: of the first m numbers, and of those after them
+pub sum-split : (g : ℕ → ℕ) (m n : ℕ) → sum (m + n) g ≡ sum m g + sum n (λ i. g (m + i))
+unfolding sum
+sum-split g m zero = ap (λ (k : ℕ). sum k g) (add-zero m) ∙ sym (add-zero (sum m g))
+sum-split g m (suc n) =
+    let step : m + suc n ≡ m + n + 1 = omega arith in
+    ap (λ (k : ℕ). sum k g) step ∙ omega (arith, sum-more g (m + n), sum-split g m n)
+
+pub count-split : (f : ℕ → Bool) (m n : ℕ) → count (m + n) f ≡ count m f + count n (λ i. f (m + i))
+unfolding count
+count-split f m n = sum-split (λ i. cond (f i) 1 0) m n
+
+-- more numbers, no smaller sum
+pub sum-mono : (g : ℕ → ℕ) (m n : ℕ) → m ≤ n → sum m g ≤ sum n g
+sum-mono g m n l =
+    let rest : m + (n - m) ≡ n = omega arith in
+    subst (λ (k : ℕ). sum m g ≤ sum k g) rest (omega (arith, sum-split g m (n - m)))
+
+-- a test that is the same at every number
+pub count-constant : (n : ℕ) (b : Bool) → count n (λ i. b) ≡ cond b n 0
+count-constant n true = count-all-pass (λ i. true) n (λ i l. refl)
+count-constant n false = count-all-fail (λ i. false) n (λ i l. refl)
+
+-- a sum that leaves out exactly one number
+pub sum-except : (f g : ℕ → ℕ) (n k : ℕ) → k < n → f k ≡ 0 → ((i : ℕ) → i < n → ((i ≡ k) → ⊥) → f i ≡ g i) → sum n f + g k ≡ sum n g
+unfolding sum
+sum-except f g zero k l e h = absurd (not-suc-le-zero l)
+sum-except f g (suc n) k l e h =
+    ⊎-elim
+    (λ q.
+    let none : f n ≡ 0 = subst (λ (m : ℕ). f m ≡ 0) q e in
+    let before : sum n f ≡ sum n g = sum-same f g n (λ i b. h i (omega arith) (λ p. lt-irrefl i (subst (λ (m : ℕ). i < m) (sym (p ∙ q)) b))) in
+    subst (λ (m : ℕ). sum n f + f n + g m ≡ sum n g + g n) (sym q) (omega arith))
+    (λ b.
+    let last : f n ≡ g n = h n (le-refl (suc n)) (λ p. lt-irrefl k (subst (λ (m : ℕ). k < m) p b)) in
+    omega (arith, sum-except f g n k b e (λ i m. h i (omega arith))))
+    (at-or-below l)
+
+-- a sum to which one number alone adds
+sum-zeros : (n : ℕ) → sum n (λ i. 0) ≡ 0
+unfolding sum
+sum-zeros zero = refl
+sum-zeros (suc n) = omega (arith, sum-zeros n)
+
+pub sum-single : (g : ℕ → ℕ) (n k : ℕ) → k < n → ((i : ℕ) → i < n → ((i ≡ k) → ⊥) → g i ≡ 0) → sum n g ≡ g k
+sum-single g n k l h = omega (arith, sum-zeros n, sum-except (λ i. 0) g n k l refl (λ i b a. sym (h i b a)))
 
 -- numbers from n on that add nothing
 sum-cut-at : (g : ℕ → ℕ) (n k : ℕ) → ((i : ℕ) → n ≤ i → g i ≡ 0) → sum (n + k) g ≡ sum n g

@@ -2,7 +2,7 @@
 -- Assumes nothing.
 use mathlib.Core.Path.{_≡_, refl, sym, ap, ap₂, _∙_, subst}
 use mathlib.Core.Logic.{inl, inr, ⊎-elim}
-use mathlib.Core.Bool.{Bool, true, false, cond, _&&_}
+use mathlib.Core.Bool.{Bool, true, false, cond, not, _&&_}
 use mathlib.Core.List.{List}
 use Prim.Native.Nat.{ℕ, suc, _+_, _-_, _%_, _<_}
 use lib.Dec.{eqb}
@@ -10,16 +10,16 @@ use lib.ListN.{length, getD, set, length-set}
 use lib.Seq.{getD-set-other}
 use Rattle.masks.specs.Mask.{nth}
 use Rattle.order.specs.Order.{flowsIn}
-use Rattle.policy.specs.Policy.{flows, inRange}
+use Rattle.policy.specs.Policy.{flows, least, homeTurn, homeClass, inRange}
 use Rattle.policy.specs.declared.Policy.{Policy}
-use Rattle.basics.proofs.Truth.{either, false-unless, not-both, and-left, and-fails-left}
+use Rattle.basics.proofs.Truth.{either, false-unless, not-both, and-left, and-fails-left, on-both}
 use Rattle.basics.proofs.Stores.{stored-in-both}
-use Rattle.rules.specs.Traversal.{firstClass, Candidates, candidates, moved, movedPointer, passedAt, named, takesBy, takes, Reached, endsAt, tryClass, charge}
-use Rattle.rules.specs.Lookahead.{Ahead, lookingAhead, goesOn, reaches, aheadOf, nextLeft, elides}
+use Rattle.rules.specs.Traversal.{firstClass, Candidates, candidates, moved, movedPointer, passedAt, named, takesBy, takes, Reached, endsAt, tryClass, charge, takesHome, leftTried, charged}
+use Rattle.rules.specs.Lookahead.{Ahead, lookingAhead, goesOn, reaches, nextLeft, elides}
 use Rattle.rules.specs.Step.{leftAtStart, ownedBy, startTurn}
 use Rattle.state.specs.declared.Turns.{Turns}
-use Rattle.rules.proofs.Traversal.{passes-on, try-takes, try-passes, onward, traverse, traversed, passes-small, owner-small, climbs, first-small, to-cover}
-use Rattle.rules.proofs.Lookahead.{reach-here, reach-fails, reach-on, look}
+use Rattle.rules.proofs.Traversal.{passes-on, try-takes, try-passes, onward, traverse, traversed, passes-small, owner-small, climbs, first-home, first-small, to-cover}
+use Rattle.rules.proofs.Lookahead.{elides-home, elides-other, reach-here, reach-fails, reach-on, look}
 use Rattle.rules.proofs.Range.{TurnsRange}
 use Rattle.rules.proofs.TurnsKept.{start-within}
 use Rattle.noninterference.proofs.Low.{Downward, EntriesAgree, OwnersAgree, TurnsAgree}
@@ -161,11 +161,27 @@ module _ (p : Policy) (given : inRange p ≡ true) (low : ℕ → Bool) (closed 
 
   -- ---- a turn's start
 
-  -- caps in both, or what was left in both
-  cond-agree : (b : Bool) (xs ys : List ℕ) → EntriesAgree low xs ys → EntriesAgree low (cond b (p .caps) xs) (cond b (p .caps) ys)
-  cond-agree true xs ys h c i = refl
-  cond-agree false xs ys h c i = h c i
+  -- one of two, by the same test in both
+  cond-agree : (b : Bool) (xs ys vs ws : List ℕ) → ((b ≡ true) → EntriesAgree low xs ys) → EntriesAgree low vs ws → EntriesAgree low (cond b xs vs) (cond b ys ws)
+  cond-agree true xs ys vs ws h g = h refl
+  cond-agree false xs ys vs ws h g = g
 
+  -- caps in both, or what was left in both
+  caps-agree : (b : Bool) (xs ys : List ℕ) → EntriesAgree low xs ys → EntriesAgree low (cond b (p .caps) xs) (cond b (p .caps) ys)
+  caps-agree b xs ys h = cond-agree b (p .caps) (p .caps) xs ys (λ t c i. refl) h
+
+  -- the class of a home turn is tried as one with a turn left in both
+  tried-agree : (k : ℕ) (xs ys : List ℕ) → length xs ≡ 16 → length ys ≡ 16 → EntriesAgree low xs ys → EntriesAgree low (leftTried p k xs) (leftTried p k ys)
+  unfolding leftTried
+  tried-agree k xs ys long-1 long-2 h =
+      let c = homeClass p k in
+      cond-agree (homeTurn p k) (set xs c 1) (set ys c 1) xs ys
+      (λ home.
+      let small : c < 16 = subst (λ (d : ℕ). d < 16) (first-home p given k home) (first-small p given k) in
+      set-agree low xs ys c 1 1 (subst (λ (n : ℕ). c < n) (sym long-1) small) (subst (λ (n : ℕ). c < n) (sym long-2) small) refl h)
+      h
+
+  -- the same low owner is charged in both, or a high one in each, which is not seen
   charge-agree : (xs ys : List ℕ) (o u : ℕ) → o < length xs → u < length ys → OwnersAgree low o u → EntriesAgree low xs ys → EntriesAgree low (charge xs o) (charge ys u)
   unfolding charge
   charge-agree xs ys o u l m owners h =
@@ -176,37 +192,80 @@ module _ (p : Policy) (given : inRange p ≡ true) (low : ℕ → Bool) (closed 
       (λ high d i. set-unseen low xs o (getD xs o 0 - 1) (high .0) d i ∙ h d i ∙ sym (set-unseen low ys u (getD ys u 0 - 1) (high .1) d i))
       owners
 
+  -- where the traversal starts at a low class: at a home turn that is its class, which has a request waiting in both or in neither; at another turn no class takes a home turn
+  same-home : (k : ℕ) (lengths-1 lengths-2 : List ℕ) → EntriesAgree low lengths-1 lengths-2 → low (firstClass p k) ≡ true → takesHome p k lengths-1 ≡ takesHome p k lengths-2
+  unfolding takesHome
+  same-home k lengths-1 lengths-2 h i =
+      ⊎-elim
+      (λ home. ap (λ (n : ℕ). homeTurn p k && not (eqb n 0)) (h (homeClass p k) (sym (ap low (first-home p given k home)) ∙ i)))
+      (λ other. and-fails-left (homeTurn p k) _ other ∙ sym (and-fails-left (homeTurn p k) _ other))
+      (either (homeTurn p k))
+
+  -- so both charge or neither does
+  charged-alike : (k : ℕ) (lengths-1 lengths-2 xs ys : List ℕ) (o u : ℕ) → takesHome p k lengths-1 ≡ takesHome p k lengths-2 → EntriesAgree low xs ys → EntriesAgree low (charge xs o) (charge ys u) → EntriesAgree low (charged p k lengths-1 xs o) (charged p k lengths-2 ys u)
+  unfolding charged
+  charged-alike k lengths-1 lengths-2 xs ys o u same h after =
+      subst (λ (b : Bool). EntriesAgree low (charged p k lengths-1 xs o) (cond b ys (charge ys u))) same (cond-agree (takesHome p k lengths-1) xs ys (charge xs o) (charge ys u) (λ t. h) after)
+
+  -- whether a high owner is charged is not seen
+  charged-unseen : (k : ℕ) (lengths xs : List ℕ) (o : ℕ) → low o ≡ false → EntriesAgree low (charged p k lengths xs o) xs
+  unfolding charged charge
+  charged-unseen k lengths xs o high =
+      on-both (λ (l : List ℕ). EntriesAgree low l xs) (takesHome p k lengths) xs (charge xs o) (λ d i. refl) (set-unseen low xs o (getD xs o 0 - 1) high)
+
+  -- where the traversal starts at a low class both charge or neither does, and where it starts at a high one both owners are high
+  charged-agree : (k : ℕ) (lengths-1 lengths-2 xs ys : List ℕ) (o u : ℕ) → EntriesAgree low lengths-1 lengths-2 → EntriesAgree low xs ys → EntriesAgree low (charge xs o) (charge ys u) → ((low (firstClass p k) ≡ false) → (low o ≡ false) × (low u ≡ false)) → EntriesAgree low (charged p k lengths-1 xs o) (charged p k lengths-2 ys u)
+  charged-agree k lengths-1 lengths-2 xs ys o u same-lengths h after highs =
+      ⊎-elim
+      (λ i. charged-alike k lengths-1 lengths-2 xs ys o u (same-home k lengths-1 lengths-2 same-lengths i) h after)
+      (λ high d i. charged-unseen k lengths-1 xs o (highs high .0) d i ∙ h d i ∙ sym (charged-unseen k lengths-2 ys u (highs high .1) d i))
+      (either (low (firstClass p k)))
+
+  -- the elision at a low owner: before a home turn the owner alone decides, and before another the lookahead
+  same-elides : (k : ℕ) (left-1 left-2 pointers-1 pointers-2 : List ℕ) → EntriesAgree low left-1 left-2 → EntriesAgree low pointers-1 pointers-2 → (owner : ℕ) → low owner ≡ true → elides p k left-1 pointers-1 owner ≡ elides p k left-2 pointers-2 owner
+  unfolding nextLeft
+  same-elides k left-1 left-2 pointers-1 pointers-2 same-left same-pointers owner i =
+      ⊎-elim
+      (λ home. elides-home p k left-1 pointers-1 owner home ∙ sym (elides-home p k left-2 pointers-2 owner home))
+      (λ other.
+      elides-other p k left-1 pointers-1 owner other
+      ∙ same-reach (nextLeft p k left-1) (nextLeft p k left-2) pointers-1 pointers-2 (caps-agree (eqb ((k + 1) % p .epoch) 0) left-1 left-2 same-left) same-pointers owner i 16 (least p)
+      ∙ sym (elides-other p k left-2 pointers-2 owner other))
+      (either (homeTurn p (k + 1)))
+
   pub start-agrees : (k : ℕ) (lengths-1 lengths-2 : List ℕ) (t u : Turns) → TurnsRange p t → TurnsRange p u → EntriesAgree low lengths-1 lengths-2 → EntriesAgree low (t .left) (u .left) → EntriesAgree low (t .pointers) (u .pointers) → TurnsAgree low (startTurn p k lengths-1 (t .left) (t .pointers) .turns) (startTurn p k lengths-2 (u .left) (u .pointers) .turns)
-  unfolding startTurn ownedBy leftAtStart nextLeft elides
+  unfolding startTurn ownedBy leftAtStart
   start-agrees k lengths-1 lengths-2 t u range-1 range-2 same-lengths same-left same-pointers =
-      let starts = eqb (k % p .epoch) 0 in
       let first = firstClass p k in
-      let then = firstClass p (k + 1) in
       let left-1 = leftAtStart p k (t .left) in
       let left-2 = leftAtStart p k (u .left) in
-      let all-1 = candidates (p .covers) lengths-1 left-1 in
-      let all-2 = candidates (p .covers) lengths-2 left-2 in
-      let agree-left = cond-agree starts (t .left) (u .left) same-left in
-      let walked = walk-agrees k lengths-1 lengths-2 left-1 left-2 (t .pointers) (u .pointers) same-lengths agree-left same-pointers (range-1 .pointers-fit .sixteen) (range-2 .pointers-fit .sixteen) in
+      let long-1 = start-within p given k (t .left) (range-1 .left-within) .sixteen in
+      let long-2 = start-within p given k (u .left) (range-2 .left-within) .sixteen in
+      let tried-1 = leftTried p k left-1 in
+      let tried-2 = leftTried p k left-2 in
+      let all-1 = candidates (p .covers) lengths-1 tried-1 in
+      let all-2 = candidates (p .covers) lengths-2 tried-2 in
+      let agree-left = caps-agree (eqb (k % p .epoch) 0) (t .left) (u .left) same-left in
+      let walked = walk-agrees k lengths-1 lengths-2 tried-1 tried-2 (t .pointers) (u .pointers) same-lengths (tried-agree k left-1 left-2 long-1 long-2 agree-left) same-pointers (range-1 .pointers-fit .sixteen) (range-2 .pointers-fit .sixteen) in
       let r = tryClass 16 all-1 (t .pointers) first in
       let q = tryClass 16 all-2 (u .pointers) first in
       let owner-1 = owner-small all-1 (p .rows) (climbs p given) 16 (t .pointers) first (first-small p given k) in
       let owner-2 = owner-small all-2 (p .rows) (climbs p given) 16 (u .pointers) first (first-small p given k) in
-      let long-1 = start-within p given k (t .left) (range-1 .left-within) .sixteen in
-      let long-2 = start-within p given k (u .left) (range-2 .left-within) .sixteen in
-      let charged = charge-agree left-1 left-2 (r .owner) (q .owner) (subst (λ (n : ℕ). r .owner < n) (sym long-1) owner-1) (subst (λ (n : ℕ). q .owner < n) (sym long-2) owner-2) (walked .owners) agree-left in
-      let last = eqb ((k + 1) % p .epoch) 0 in
+      let after-1 = charged p k lengths-1 left-1 (r .owner) in
+      let after-2 = charged p k lengths-2 left-2 (q .owner) in
+      let agree-charge = charge-agree left-1 left-2 (r .owner) (q .owner) (subst (λ (n : ℕ). r .owner < n) (sym long-1) owner-1) (subst (λ (n : ℕ). q .owner < n) (sym long-2) owner-2) (walked .owners) agree-left in
+      let agree-after =
+      charged-agree k lengths-1 lengths-2 left-1 left-2 (r .owner) (q .owner) same-lengths agree-left agree-charge
+      (λ high. (high-walk lengths-1 tried-1 16 (t .pointers) first high .owner, high-walk lengths-2 tried-2 16 (u .pointers) first high .owner))
+      in
       record {
         owners = walked .owners;
         elisions =
             λ i.
             ⊎-elim
-            (λ same.
-            same-reach (nextLeft p k (charge left-1 (r .owner))) (nextLeft p k (charge left-2 (q .owner))) (r .pointers) (q .pointers)
-            (cond-agree last (charge left-1 (r .owner)) (charge left-2 (q .owner)) charged) (walked .pointers) (r .owner) i 16 then
-            ∙ ap (λ (o : ℕ). reaches 16 (aheadOf p k (charge left-2 (q .owner)) (q .pointers)) o then) (same .0))
+            (λ same. same-elides k after-1 after-2 (r .pointers) (q .pointers) agree-after (walked .pointers) (r .owner) i ∙ ap (elides p k after-2 (q .pointers)) (same .0))
             (λ high. absurd (not-both i (high .0)))
             (walked .owners);
-        left = charged;
+        left = agree-after;
         pointers = walked .pointers;
       }

@@ -15,7 +15,7 @@ use Rattle.masks.specs.Mask.{member, size}
 use Rattle.order.specs.Order.{strictlyIn, rowFits, rowsFit, antisymmetric, transitive, hasLeast, leastAt, leastIn, betweenIn, coversIn, coverSet, aboveIn}
 use Rattle.turns.specs.Turns.{turnsSound, minimumsSum, minimumsAbove, capIn}
 use Rattle.timing.specs.Timing.{within, gapsWithin, bankWithin, timingSound}
-use Rattle.policy.specs.Policy.{flows, strictly, least, above, coversOf, coverCount, cover, cap, isClass, shaped, storedFits, allStoredFits, policyTests, firstFailing, refusal, inRange}
+use Rattle.policy.specs.Policy.{flows, strictly, least, above, coversOf, coverCount, cover, cap, minimum, isClass, shaped, storedFits, allStoredFits, policyTests, firstFailing, refusal, inRange}
 use Rattle.policy.specs.Laws.{OrderLaws, LeastLaws, Covering, CoverLaws, AboveLaws, CapLaws, TimingLaws, PolicyLaws}
 use Rattle.order.specs.Laws.{Reflexive, Least}
 use Rattle.timing.specs.declared.Timing.{Timing}
@@ -25,6 +25,7 @@ use Rattle.basics.proofs.Below.{lt-or-ge, every-at, some-at, some-found, first-
 use Rattle.masks.proofs.Masks.{member-zero, member-over, member-setOf, setOf-below}
 use Rattle.order.proofs.Orders as orders
 use Rattle.masks.proofs.Numbered as numbered
+use Rattle.policy.proofs.Homes.{home-laws}
 
 -- ---- what the tests are
 
@@ -383,6 +384,14 @@ module _ (p : Policy) (given : inRange p ≡ true) where
         sixteen = shape .caps;
       }
 
+  -- ---- home turns
+
+  no-minimum : (i : ℕ) → i < 16 → isClass p i ≡ false → minimum p i ≡ 0
+  unfolding storedFits minimum
+  no-minimum i l e =
+      let kept = and-right (eqb (coversOf p i) (coverSet (p .rows) i) && eqb (cap p i) (capIn (p .classes) (p .rows) (p .epoch) (p .minimums) i)) (isClass p i || eqb (getD (p .minimums) i 0) 0) (stored-at i l) in
+      eqb-true (getD (p .minimums) i 0) 0 (rw e at kept)
+
 -- ---- the timing
 
 -- two gaps, and four
@@ -437,5 +446,6 @@ policy-laws p given =
       covering = cover-laws p given;
       higher = above-laws p given;
       capped = cap-laws p given;
+      homes = home-laws p (order-laws p given) (least-laws p given) (cap-laws p given) (within-epoch p given) (no-minimum p given);
       timed = timing-laws (p .timing) (tests p given .timing);
     }

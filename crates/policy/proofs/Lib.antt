@@ -2,3 +2,5 @@
 
 -- of every policy in range
 pub mod Laws
+-- of the home turns of one
+pub mod Homes

@@ -2,13 +2,15 @@
 -- Each record is a statement; `proofs/Laws.antt` proves it of every p with `inRange p ≡ true`, of which every policy that reading hands back is one.
 use mathlib.Core.Path.{_≡_}
 use mathlib.Core.Logic.{_↔_}
-use mathlib.Core.Bool.{true}
-use Prim.Native.Nat.{ℕ, _+_, _^_, _≤_, _<_}
+use mathlib.Core.Bool.{Bool, true, cond, _&&_}
+use Prim.Native.Nat.{ℕ, _+_, _^_, _%_, _≤_, _<_}
+use lib.Dec.{eqb}
 use lib.ListN.{length, getD}
+use Rattle.basics.specs.Below.{sum, count}
 use Rattle.masks.specs.Mask.{member}
 use Rattle.order.specs.Laws.{Reflexive, Least}
-use Rattle.turns.specs.Turns.{minimumsAbove}
-use Rattle.policy.specs.Policy.{isClass, flows, strictly, least, above, coversOf, coverCount, cover, cap}
+use Rattle.turns.specs.Turns.{minimumsSum, minimumsAbove, freeTurns, homePlace, minimumsBelow}
+use Rattle.policy.specs.Policy.{isClass, flows, strictly, least, above, coversOf, coverCount, cover, cap, minimum, homeTurn, homeClass}
 use Rattle.timing.specs.declared.Timing.{Timing}
 use Rattle.policy.specs.declared.Policy.{Policy}
 
@@ -65,6 +67,23 @@ pub record CapLaws (p : Policy) : Type 0 where
   -- one is stored for each of the sixteen numbers
   pub sixteen : length (p .caps) ≡ 16
 
+-- W-202: "The last S turns of each epoch become home turns, class by class in rising number, each as often as its minimum."
+pub record HomeLaws (p : Policy) : Type 0 where
+  -- turn j of an epoch is a home turn exactly if E - S ≤ j, and the others are E - S
+  pub the-last : (k : ℕ) → (homeTurn p k ≡ true) ↔ (p .epoch ≤ k % p .epoch + minimumsSum (p .minimums))
+  pub the-others : freeTurns (p .epoch) (p .minimums) + minimumsSum (p .minimums) ≡ p .epoch
+  -- a home turn's class: its place among the epoch's home turns is at least the sum of the minimums below the class, and less than that sum with the class's own
+  pub of-class : (k : ℕ) → homeTurn p k ≡ true → isClass p (homeClass p k) ≡ true
+  pub not-before : (k : ℕ) → homeTurn p k ≡ true → minimumsBelow (p .minimums) (homeClass p k) ≤ homePlace (p .epoch) (p .minimums) k
+  pub not-after : (k : ℕ) → homeTurn p k ≡ true → homePlace (p .epoch) (p .minimums) k < minimumsBelow (p .minimums) (homeClass p k) + minimum p (homeClass p k)
+  pub only : (k c : ℕ) → homeTurn p k ≡ true → c < 16 → minimumsBelow (p .minimums) c ≤ homePlace (p .epoch) (p .minimums) k
+      → homePlace (p .epoch) (p .minimums) k < minimumsBelow (p .minimums) c + minimum p c → homeClass p k ≡ c
+  -- each class has as many as its minimum: so of the classes of any kind there are as many as their minimums together
+  pub as-often : (f : ℕ → Bool) → count (p .epoch) (λ j. homeTurn p j && f (homeClass p j)) ≡ sum 16 (λ c. cond (f c) (minimum p c) 0)
+  pub as-its-minimum : (c : ℕ) → isClass p c ≡ true → count (p .epoch) (λ j. homeTurn p j && eqb (homeClass p j) c) ≡ minimum p c
+  -- the least class may have them all but those of the others: what its cap has above its minimum is the turns that are no home turns
+  pub least-cap : cap p (least p) ≡ freeTurns (p .epoch) (p .minimums) + minimum p (least p)
+
 -- the timing's bounds: "each gap 1 to the dead time", the answer delay at most the dead time, the dead time below the turn length, the column delay below the answer delay
 pub record TimingLaws (t : Timing) : Type 0 where
   pub turn-bounds : (2 ≤ t .turn) × (t .turn ≤ 255)
@@ -81,4 +100,5 @@ pub record PolicyLaws (p : Policy) : Type 0 where
   pub covering : CoverLaws p
   pub higher : AboveLaws p
   pub capped : CapLaws p
+  pub homes : HomeLaws p
   pub timed : TimingLaws (p .timing)

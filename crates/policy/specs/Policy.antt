@@ -7,7 +7,7 @@ use lib.ListN.{length, getD}
 use Rattle.basics.specs.Below.{every}
 use Rattle.masks.specs.Mask.{size, nth}
 use Rattle.order.specs.Order.{isClassIn, flowsIn, strictlyIn, rowsFit, antisymmetric, transitive, hasLeast, leastIn, coverSet, aboveIn}
-use Rattle.turns.specs.Turns.{turnsSound, capIn}
+use Rattle.turns.specs.Turns.{turnsSound, capIn, homeTurnIn, homePlace, homeAt}
 use Rattle.timing.specs.Timing.{timingSound, within}
 use Rattle.policy.specs.declared.Policy.{Policy}
 
@@ -46,6 +46,18 @@ cover p i k = nth (coversOf p i) k
 -- the stored cap of a class
 unfoldable pub cap : Policy → ℕ → ℕ
 cap p i = getD (p .caps) i 0
+
+-- the minimum of a class
+unfoldable pub minimum : Policy → ℕ → ℕ
+minimum p i = getD (p .minimums) i 0
+
+-- W-202: "The last S turns of each epoch become home turns": turn number k is one
+unfoldable pub homeTurn : Policy → ℕ → Bool
+homeTurn p k = homeTurnIn (p .epoch) (p .minimums) k
+
+-- its home class: "class by class in rising number, each as often as its minimum"
+unfoldable pub homeClass : Policy → ℕ → ℕ
+homeClass p k = homeAt (p .minimums) (homePlace (p .epoch) (p .minimums) k)
 
 -- ---- what is refused
 

@@ -12,7 +12,7 @@ pub struct Policy {
     pub rows: [u16; 16],
     // The epoch's length in turns.
     pub epoch: u32,
-    // The turns that the classes below each class leave to it, by way of their caps.
+    // How many of an epoch's last turns are each class's home turns; the caps of the classes below it are so many turns lower.
     pub minimums: [u32; 16],
     pub timing: Timing,
     // The set of classes that cover each class. Document 01: its children.

@@ -42,3 +42,7 @@ pub mod Laws
 pub mod RunLaws
 -- and as `specs/RoundRobin.antt` states them
 pub mod RoundRobin
+-- of the ticks of a list, one after the other
+pub mod ListTicks
+-- and as `specs/Guarantees.antt` states them
+pub mod Guarantees

@@ -5,7 +5,7 @@ use mathlib.Core.Path.{_≡_, refl, sym, ap, _∙_, subst}
 use mathlib.Core.Logic.{inl, ⊎-elim}
 use mathlib.Core.Bool.{true, false, not, _&&_}
 use mathlib.Core.List.{List}
-use Prim.Native.Nat.{ℕ, zero, suc, _≤_, _<_}
+use Prim.Native.Nat.{ℕ, zero, suc, _+_, _≤_, _<_}
 use native.Mathlib.Nat.{not-suc-le-zero, lt-of-le-of-lt, lt-irrefl, le-refl, le-of-lt}
 use native.Mathlib.Omega.{arith}
 use borrow.Author.Tests.{eqb-true, eqb-false, eq-eqb, ne-eqb}
@@ -14,18 +14,29 @@ use lib.ListN.{getD}
 use lib.Seq.{getD-set-other}
 use Rattle.masks.specs.Mask.{member, nth}
 use Rattle.order.specs.Order.{flowsIn, aboveIn}
-use Rattle.policy.specs.Policy.{isClass, flows, above, coversOf, inRange}
+use Rattle.policy.specs.Policy.{isClass, flows, least, above, coversOf, homeTurn, homeClass, inRange}
 use Rattle.policy.specs.declared.Policy.{Policy}
 use Rattle.basics.proofs.Truth.{either, not-both, and-left, and-right, and-both, and-fails-right, or-left, or-fails, on-true, on-false}
 use Rattle.policy.proofs.Laws.{policy-laws}
-use Rattle.rules.specs.Traversal.{Candidates, candidates, moved, movedPointer, passedAt, named, takesBy, takes, Reached, endsAt, tryClass}
+use Rattle.rules.specs.Traversal.{firstClass, Candidates, candidates, moved, movedPointer, passedAt, named, takesBy, takes, Reached, endsAt, tryClass, leftTried}
 use Rattle.rules.specs.Climb.{Climbs}
-use Rattle.rules.specs.Lookahead.{Ahead, lookingAhead, goesOn, reaches, nextLeft, elides}
+use Rattle.rules.specs.Lookahead.{Ahead, lookingAhead, goesOn, reaches, nextLeft, aheadOf, elides}
 use Rattle.rules.specs.Step.{leftAtStart, ownedBy, startTurn}
 use Rattle.rules.specs.Laws.{Elision}
 use Rattle.rules.specs.RoundRobin.{passesOn, Tries}
-use Rattle.rules.proofs.Traversal.{named-covers, passes-on, try-passes, climbs, first-class, to-cover, ascends}
+use Rattle.rules.proofs.Traversal.{named-covers, passes-on, try-passes, climbs, first-home, first-least, first-class, tried-least, to-cover, ascends}
 use Rattle.rules.proofs.Passing.{on-takes, on-later, first-tried, later-tried, tried-later, taken-tried}
+
+-- ---- which rule decides: what the next turn is
+
+module _ (p : Policy) (k : ℕ) (left pointers : List ℕ) (owner : ℕ) where
+  pub elides-home : homeTurn p (k + 1) ≡ true → elides p k left pointers owner ≡ flows p owner (homeClass p (k + 1))
+  unfolding elides
+  elides-home home = rw home
+
+  pub elides-other : homeTurn p (k + 1) ≡ false → elides p k left pointers owner ≡ reaches 16 (aheadOf p k left pointers) owner (least p)
+  unfolding elides
+  elides-other other = rw other
 
 module _ (ahead : Ahead) (owner : ℕ) where
   abbrev next : ℕ → ℕ
@@ -197,11 +208,23 @@ module _ (p : Policy) (given : inRange p ≡ true) where
         (either (takes all c)))
         (either (eqb c owner))
 
+  -- before a home turn the owner may flow to the class where the traversal starts, and it goes only up from there; before another the traversal follows the lookahead to the owner
   pub elision : Elision p
-  unfolding elides nextLeft startTurn ownedBy leftAtStart
+  unfolding nextLeft startTurn ownedBy leftAtStart
   elision k left pointers owner l e lengths =
       let order = policy-laws p given .order in
+      let then = firstClass p (k + 1) in
+      let tried = leftTried p (k + 1) (nextLeft p k left) in
+      let ends : ℕ → List ℕ → ℕ = λ from left. tryClass 16 (candidates (p .covers) lengths left) pointers from .owner in
       ⊎-elim
+      (λ home.
+      order .transitive owner then (ends then tried)
+      (rw (first-home p given (k + 1) home) (sym (elides-home p k left pointers owner home) ∙ e))
+      (ascends p given 16 lengths tried pointers then (first-class p given (k + 1))))
+      (λ other.
+      rw (first-least p given (k + 1) other, tried-least p given (k + 1) (nextLeft p k left) other)
+      (⊎-elim
       (λ o. subst (λ (x : ℕ). flows p owner x ≡ true) (sym o) (order .reflexive owner l))
-      (ends-above lengths (nextLeft p k left) pointers owner 16 pointers _ (first-class p given _))
-      (follows lengths (nextLeft p k left) pointers owner 16 _ pointers (λ j h. refl) e)
+      (ends-above lengths (nextLeft p k left) pointers owner 16 pointers (least p) (policy-laws p given .lowest .is-class))
+      (follows lengths (nextLeft p k left) pointers owner 16 (least p) pointers (λ j h. refl) (sym (elides-other p k left pointers owner other) ∙ e))))
+      (either (homeTurn p (k + 1)))

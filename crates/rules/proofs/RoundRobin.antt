@@ -14,10 +14,11 @@ use lib.ListN.{length, getD, length-set}
 use lib.Seq.{getD-set-same, getD-set-other}
 use Rattle.masks.specs.Mask.{size, nth}
 use Rattle.order.specs.Order.{aboveIn}
-use Rattle.policy.specs.Policy.{coversOf, coverCount, cover, inRange as policyInRange}
+use Rattle.policy.specs.Policy.{flows, least, coversOf, coverCount, cover, homeTurn, homeClass, inRange as policyInRange}
 use Rattle.policy.specs.declared.Policy.{Policy}
 use Rattle.basics.proofs.Truth.{either, not-both, and-left, and-right, and-both, and-fails-right, on-true, on-false}
 use Rattle.basics.proofs.Below.{lt-or-ge}
+use Rattle.policy.proofs.Laws.{policy-laws}
 use Rattle.requests.specs.Sizes.{lastCycle}
 use Rattle.requests.specs.Trace.{callOf}
 use Rattle.requests.specs.declared.Call.{Call}
@@ -28,15 +29,15 @@ use Rattle.state.specs.declared.State.{State}
 use Rattle.state.specs.declared.Turns.{Turns}
 use Rattle.state.specs.declared.Offered.{Offered}
 use Rattle.state.specs.declared.Ticked.{Ticked}
-use Rattle.rules.specs.Traversal.{firstClass, Candidates, candidates, moved, movedPointer, passedAt, named, takes, Reached, endsAt, tryClass}
-use Rattle.rules.specs.Lookahead.{nextLeft, elides}
+use Rattle.rules.specs.Traversal.{firstClass, Candidates, candidates, moved, movedPointer, passedAt, named, takes, Reached, endsAt, tryClass, leftTried}
+use Rattle.rules.specs.Lookahead.{reaches, nextLeft, aheadOf}
 use Rattle.rules.specs.Step.{turnStarts, turnNumber, leftAtStart, turnWord, TurnStart, ownedBy, startTurn, turnsAt}
 use Rattle.rules.specs.Call.{offerOn, afterTick, tick}
 use Rattle.rules.specs.Calls.{Answer, ticked, answer, answerTo, stateAfter}
-use Rattle.rules.specs.RoundRobin.{passesOn, passesTo, seenAt, triedFirst, tickStarts, tickPasses, tickPassesTo, turnsAfter, Shows, callPasses, passedTurns, inTurn, RoundRobin, Tries, TriesOwner, TrialFollows}
-use Rattle.rules.proofs.Traversal.{moved-names, try-takes, try-passes, falls, climbs, first-class}
+use Rattle.rules.specs.RoundRobin.{passesOn, passesTo, seenAt, triedFirst, tickStarts, tickPasses, tickPassesTo, turnsAfter, Shows, callPasses, passedTurns, inTurn, RoundRobin, Tries, TriesOwner, nextTurn, TrialFollows}
+use Rattle.rules.proofs.Traversal.{moved-names, try-takes, try-passes, falls, climbs, first-least, tried-least}
 use Rattle.rules.proofs.Passing.{on-takes, on-passes, to-passes, on-later, first-tried, next-tried, passes-full, never-back, owner-keeps}
-use Rattle.rules.proofs.Lookahead.{follows, leads}
+use Rattle.rules.proofs.Lookahead.{elides-home, elides-other, follows, leads}
 use Rattle.rules.proofs.Range.{ranged, in-range}
 use Rattle.rules.proofs.Call.{offer-is, tick-is, tick-late}
 use Rattle.rules.proofs.SingleCalls.{tick-called}
@@ -168,7 +169,7 @@ module _ (p : Policy) (given : policyInRange p ≡ true) where
         ∙ ⊎-elim
         (λ e.
         ap (λ (t : TurnStart). getD (t .turns .pointers) c 0) (on-true (turnStarts p (s .cycle)) _ _ e)
-        ∙ pointer-after (s .queues .lengths) (leftAtStart p number (s .turns .left)) 16 (s .turns .pointers) (firstClass p number) c long small
+        ∙ pointer-after (s .queues .lengths) (leftTried p number (leftAtStart p number (s .turns .left))) 16 (s .turns .pointers) (firstClass p number) c long small
         ∙ sym (ap (λ (b : Bool). moves-on s c (b && turnStarts p (s .cycle) && passed)) l ∙ ap (λ (b : Bool). moves-on s c (b && passed)) e))
         (λ e.
         ap (λ (t : TurnStart). getD (t .turns .pointers) c 0) (on-false (turnStarts p (s .cycle)) _ _ e)
@@ -248,22 +249,37 @@ module _ (p : Policy) (given : policyInRange p ≡ true) where
 
     -- ---- the trial walk
 
-    trial-dropped : tickStarts p s ≡ true → turnsAfter p s .elided ≡ true → (lengths : List ℕ) → TriesOwner p (turnNumber p (s .cycle) + 1) (turnsAfter p s) lengths
-    unfolding elides nextLeft startTurn ownedBy leftAtStart
-    trial-dropped h =
-        let k = turnNumber p (s .cycle) in
-        at-start h (λ turns shown. turns .elided ≡ true → (lengths : List ℕ) → TriesOwner p (k + 1) turns lengths)
-        (λ e lengths. follows p given lengths (nextLeft p k (started .turns .left)) (started .turns .pointers) (started .turns .owner) 16 (firstClass p (k + 1)) (started .turns .pointers) (λ j b. refl) e)
+    -- what the trial walk says, before a turn that is no home turn
+    trial : homeTurn p (nextTurn p s) ≡ false → started .turns .elided ≡ reaches 16 (aheadOf p (turnNumber p (s .cycle)) (started .turns .left) (started .turns .pointers)) (started .turns .owner) (least p)
+    unfolding startTurn ownedBy
+    trial = elides-other p (turnNumber p (s .cycle)) (started .turns .left) (started .turns .pointers) (started .turns .owner)
 
-    trial-kept : tickStarts p s ≡ true → turnsAfter p s .elided ≡ false → (lengths : List ℕ) → ((c : ℕ) → c < 16 → (getD lengths c 0 ≡ 0) → ⊥) → TriesOwner p (turnNumber p (s .cycle) + 1) (turnsAfter p s) lengths → ⊥
-    unfolding elides nextLeft startTurn ownedBy leftAtStart
-    trial-kept h =
-        let k = turnNumber p (s .cycle) in
-        at-start h (λ turns shown. turns .elided ≡ false → (lengths : List ℕ) → ((c : ℕ) → c < 16 → (getD lengths c 0 ≡ 0) → ⊥) → TriesOwner p (k + 1) turns lengths → ⊥)
+    -- and the traversal of that turn, from the least class by the turns left as they are
+    from-least : homeTurn p (nextTurn p s) ≡ false → (lengths : List ℕ) → TriesOwner p (nextTurn p s) (started .turns) lengths ≡ Tries 16 (candidates (p .covers) lengths (nextLeft p (turnNumber p (s .cycle)) (started .turns .left))) (started .turns .pointers) (least p) (started .turns .owner)
+    unfolding nextLeft leftAtStart
+    from-least other lengths = rw (first-least p given (nextTurn p s) other, tried-least p given (nextTurn p s) (leftAtStart p (nextTurn p s) (started .turns .left)) other)
+
+    trial-dropped : tickStarts p s ≡ true → homeTurn p (nextTurn p s) ≡ false → turnsAfter p s .elided ≡ true → (lengths : List ℕ) → TriesOwner p (nextTurn p s) (turnsAfter p s) lengths
+    trial-dropped h other =
+        at-start h (λ turns shown. turns .elided ≡ true → (lengths : List ℕ) → TriesOwner p (nextTurn p s) turns lengths)
+        (λ e lengths.
+        rw (from-least other lengths)
+        (follows p given lengths (nextLeft p (turnNumber p (s .cycle)) (started .turns .left)) (started .turns .pointers) (started .turns .owner) 16 (least p) (started .turns .pointers) (λ j b. refl) (sym (trial other) ∙ e)))
+
+    trial-kept : tickStarts p s ≡ true → homeTurn p (nextTurn p s) ≡ false → turnsAfter p s .elided ≡ false → (lengths : List ℕ) → ((c : ℕ) → c < 16 → (getD lengths c 0 ≡ 0) → ⊥) → TriesOwner p (nextTurn p s) (turnsAfter p s) lengths → ⊥
+    trial-kept h other =
+        at-start h (λ turns shown. turns .elided ≡ false → (lengths : List ℕ) → ((c : ℕ) → c < 16 → (getD lengths c 0 ≡ 0) → ⊥) → TriesOwner p (nextTurn p s) turns lengths → ⊥)
         (λ e lengths waits tries.
         not-both
-        (leads p given lengths (nextLeft p k (started .turns .left)) (started .turns .pointers) (started .turns .owner) waits 16 (firstClass p (k + 1)) (started .turns .pointers) (first-class p given (k + 1)) (λ j b. refl) tries)
-        e)
+        (leads p given lengths (nextLeft p (turnNumber p (s .cycle)) (started .turns .left)) (started .turns .pointers) (started .turns .owner) waits 16 (least p) (started .turns .pointers) (policy-laws p given .lowest .is-class) (λ j b. refl)
+        (rw (sym (from-least other lengths)) tries))
+        (sym (trial other) ∙ e))
+
+    home-next : tickStarts p s ≡ true → homeTurn p (nextTurn p s) ≡ true → turnsAfter p s .elided ≡ flows p (turnsAfter p s .owner) (homeClass p (nextTurn p s))
+    unfolding startTurn ownedBy
+    home-next h home =
+        at-start h (λ turns shown. turns .elided ≡ flows p (turns .owner) (homeClass p (nextTurn p s)))
+        (elides-home p (turnNumber p (s .cycle)) (started .turns .left) (started .turns .pointers) (started .turns .owner) home)
 
   -- ---- a list of calls
 
@@ -297,7 +313,7 @@ module _ (p : Policy) (given : policyInRange p ≡ true) where
             let number = turnNumber p (s .cycle) in
             let passed = and-right (tickStarts p s) _ h in
             let lengths = s .queues .lengths in
-            let left = leftAtStart p number (s .turns .left) in
+            let left = leftTried p number (leftAtStart p number (s .turns .left)) in
             passes-named lengths left 16 (s .turns .pointers) (firstClass p number) c passed
             ∙ ap (λ (v : ℕ). nth (getD (p .covers) c 0) (moved (getD (p .covers) c 0) v)) (pointer-turn ws c small)
             ∙ ap (nth (getD (p .covers) c 0))
@@ -311,4 +327,4 @@ module _ (p : Policy) (given : policyInRange p ≡ true) where
       }
 
   pub trial-follows : TrialFollows p
-  trial-follows = record { dropped = trial-dropped; kept = trial-kept }
+  trial-follows = record { dropped = trial-dropped; kept = trial-kept; before-home = home-next }

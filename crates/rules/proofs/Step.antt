@@ -11,7 +11,7 @@ use lib.Dec.{eqb}
 use Rattle.policy.specs.Policy.{inRange}
 use Rattle.policy.specs.declared.Policy.{Policy}
 use Rattle.basics.proofs.Truth.{either, on-true, on-false}
-use Rattle.rules.specs.Traversal.{firstClass, candidates}
+use Rattle.rules.specs.Traversal.{firstClass, candidates, leftTried}
 use Rattle.rules.specs.Step.{turnStarts, turnNumber, leftAtStart, turnWord, TurnStart, ownedBy, startTurn, turnsAt, Driven, Bus, dueColumn, canActivate, columnSent, requestSent, nothingSent, drive}
 use Rattle.state.specs.declared.Turns.{Turns}
 use Rattle.rules.proofs.Traversal.{owner-small, climbs, first-small}
@@ -22,7 +22,7 @@ module _ (p : Policy) (given : inRange p ≡ true) where
   start-owner : (k : ℕ) (lengths left pointers : List ℕ) → startTurn p k lengths left pointers .turns .owner < 16
   unfolding startTurn ownedBy
   start-owner k lengths left pointers =
-      owner-small (candidates (p .covers) lengths (leftAtStart p k left)) (p .rows) (climbs p given) 16 pointers (firstClass p k) (first-small p given k)
+      owner-small (candidates (p .covers) lengths (leftTried p k (leftAtStart p k left))) (p .rows) (climbs p given) 16 pointers (firstClass p k) (first-small p given k)
 
   pub turn-owner : (t : ℕ) (lengths : List ℕ) (turns : Turns) → turns .owner < 16 → turnsAt p t lengths turns .turns .owner < 16
   unfolding turnsAt

@@ -8,21 +8,22 @@ use mathlib.Core.List.{List}
 use Prim.Native.Nat.{ℕ, zero, suc, _+_, _^_, _≤_, _<_}
 use native.Mathlib.Nat.{not-suc-le-zero}
 use native.Mathlib.Omega.{arith}
-use borrow.Author.Tests.{eq-eqb, ne-eqb, lt-ltb, le-ltb}
+use borrow.Author.Tests.{eqb-true, eqb-false, eq-eqb, ne-eqb, lt-ltb, le-ltb}
 use lib.Dec.{eqb, lit<}
-use lib.ListN.{getD}
+use lib.ListN.{length, getD}
+use lib.Seq.{getD-set-same, getD-set-other}
 use Rattle.basics.specs.Below.{some}
 use Rattle.masks.specs.Mask.{member, size}
 use Rattle.order.specs.Order.{aboveIn}
-use Rattle.policy.specs.Policy.{isClass, flows, strictly, above, coversOf, inRange}
+use Rattle.policy.specs.Policy.{isClass, flows, strictly, least, above, coversOf, homeTurn, homeClass, inRange}
 use Rattle.policy.specs.declared.Policy.{Policy}
-use Rattle.basics.proofs.Truth.{either, not-both, or-right, on-true, on-false}
+use Rattle.basics.proofs.Truth.{either, not-both, and-left, and-right, or-right, not-not, on-true, on-false}
 use Rattle.basics.proofs.Below.{lt-or-ge, some-found, none-at, count-yes, count-mono}
 use Rattle.masks.proofs.Masks.{same-members, member-zero, member-small}
 use Rattle.masks.proofs.Numbered as numbered
 use Rattle.order.proofs.Orders.{apart-strictly, strictly-flows}
 use Rattle.policy.proofs.Laws.{policy-laws}
-use Rattle.rules.specs.Traversal.{firstClass, Candidates, candidates, moved, movedPointer, passedAt, named, takesBy, takes, Reached, endsAt, tryClass}
+use Rattle.rules.specs.Traversal.{firstClass, Candidates, candidates, moved, movedPointer, passedAt, named, takesBy, takes, Reached, endsAt, tryClass, takesHome, leftTried}
 use Rattle.rules.specs.Climb.{Climbs}
 use Rattle.rules.specs.Laws.{Ascends}
 
@@ -136,6 +137,16 @@ module _ (all : Candidates) where
     owner-small =
         traversed (λ pointers c r. c < 16 → r .owner < 16) (λ pointers c l. l) (λ bound pointers c t next l. next (passes-small pointers c t))
 
+-- ---- of two traversals on the same covers: where the same classes take the turn, they are the same
+
+pub same-takes : (covers lengths left others rest : List ℕ) → ((c : ℕ) → takes (candidates covers lengths left) c ≡ takes (candidates covers others rest) c) → (bound : ℕ) (pointers : List ℕ) (c : ℕ) → tryClass bound (candidates covers lengths left) pointers c ≡ tryClass bound (candidates covers others rest) pointers c
+unfolding tryClass
+same-takes covers lengths left others rest same =
+    let all = candidates covers others rest in
+    traverse (candidates covers lengths left) (λ bound pointers c r. r ≡ tryClass bound all pointers c) (λ pointers c. refl)
+    (λ bound pointers c t. sym (try-takes all (suc bound) pointers c (sym (same c) ∙ t)))
+    (λ bound pointers c t next. next ∙ sym (try-passes all bound pointers c (sym (same c) ∙ t)))
+
 -- ---- of a policy in range
 
 -- rows and covers are what the traversal rests on
@@ -153,13 +164,58 @@ climbs p given =
     }
 
 module _ (p : Policy) (given : inRange p ≡ true) where
-  -- the traversal starts at a class
-  pub first-class : (k : ℕ) → isClass p (firstClass p k) ≡ true
+  -- the traversal of a home turn starts at its class, and of another at the least one
+  pub first-home : (k : ℕ) → homeTurn p k ≡ true → firstClass p k ≡ homeClass p k
   unfolding firstClass
-  first-class k = policy-laws p given .lowest .is-class
+  first-home k e = rw e
+
+  pub first-least : (k : ℕ) → homeTurn p k ≡ false → firstClass p k ≡ least p
+  unfolding firstClass
+  first-least k e = rw e
+
+  pub first-class : (k : ℕ) → isClass p (firstClass p k) ≡ true
+  first-class k =
+      ⊎-elim
+      (λ e. rw (first-home k e) (policy-laws p given .homes .of-class k e))
+      (λ e. rw (first-least k e) (policy-laws p given .lowest .is-class))
+      (either (homeTurn p k))
 
   pub first-small : (k : ℕ) → firstClass p k < 16
   first-small k = policy-laws p given .order .class-small (firstClass p k) (first-class k)
+
+  -- at another turn than a home turn the traversal goes by the turns left as they are
+  pub tried-least : (k : ℕ) (left : List ℕ) → homeTurn p k ≡ false → leftTried p k left ≡ left
+  unfolding leftTried
+  tried-least k left e = rw e
+
+  -- a home turn is taken by its class where a request of it waits, whatever turns it has left
+  pub home-takes : (k : ℕ) (lengths left : List ℕ) → length left ≡ 16 → takesHome p k lengths ≡ true → (bound : ℕ) (pointers : List ℕ) → tryClass bound (candidates (p .covers) lengths (leftTried p k left)) pointers (firstClass p k) ≡ endsAt pointers (firstClass p k)
+  unfolding takesHome leftTried takes takesBy
+  home-takes k lengths left long e bound pointers =
+      let home = and-left (homeTurn p k) (not (eqb (getD lengths (homeClass p k) 0) 0)) e in
+      let waits = and-right (homeTurn p k) (not (eqb (getD lengths (homeClass p k) 0) 0)) e in
+      let first = first-home k home in
+      let small : homeClass p k < length left = omega (arith, first-small k, first, long) in
+      try-takes (candidates (p .covers) lengths (leftTried p k left)) bound pointers (firstClass p k)
+      (rw (first, home, waits, getD-set-same left (homeClass p k) 1 0 small) refl)
+
+  -- where none waits its turns left make no difference, so the traversal is the one by the turns left as they are
+  idle-takes : (k : ℕ) (lengths left : List ℕ) → takesHome p k lengths ≡ false → (c : ℕ) → takes (candidates (p .covers) lengths (leftTried p k left)) c ≡ takes (candidates (p .covers) lengths left) c
+  unfolding takesHome leftTried takes takesBy
+  idle-takes k lengths left e c =
+      ⊎-elim
+      (λ home.
+      let idle : eqb (getD lengths (homeClass p k) 0) 0 ≡ true = not-not _ (rw home at e) in
+      rw home
+      (⊎-elim
+      (λ here. rw (eqb-true c (homeClass p k) here, idle))
+      (λ apart. rw (getD-set-other left (homeClass p k) c 1 0 (eqb-false c (homeClass p k) apart)))
+      (either (eqb c (homeClass p k)))))
+      (λ other. rw other)
+      (either (homeTurn p k))
+
+  pub home-idle : (k : ℕ) (lengths left : List ℕ) → takesHome p k lengths ≡ false → (bound : ℕ) (pointers : List ℕ) (c : ℕ) → tryClass bound (candidates (p .covers) lengths (leftTried p k left)) pointers c ≡ tryClass bound (candidates (p .covers) lengths left) pointers c
+  home-idle k lengths left e = same-takes (p .covers) lengths (leftTried p k left) lengths left (idle-takes k lengths left e)
 
   -- a class may flow to the cover that its pointer names
   pub to-cover : (pointers : List ℕ) (c : ℕ) → ((getD (p .covers) c 0 ≡ 0) → ⊥) → flows p c (named (p .covers) pointers c) ≡ true

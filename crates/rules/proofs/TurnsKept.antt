@@ -15,7 +15,7 @@ use Rattle.policy.specs.declared.Policy.{Policy}
 use Rattle.basics.proofs.Truth.{either, on-both, on-true, on-false}
 use Rattle.basics.proofs.Stores.{stored-at}
 use Rattle.policy.proofs.Laws.{policy-laws}
-use Rattle.rules.specs.Traversal.{firstClass, candidates, moved, movedPointer, passedAt, endsAt, tryClass, charge}
+use Rattle.rules.specs.Traversal.{firstClass, candidates, moved, movedPointer, passedAt, endsAt, tryClass, charge, takesHome, leftTried, charged}
 use Rattle.rules.specs.Step.{turnStarts, turnNumber, leftAtStart, TurnStart, ownedBy, startTurn, turnsAt}
 use Rattle.state.specs.declared.Turns.{Turns}
 use Rattle.rules.proofs.Range.{Within, TurnsRange}
@@ -67,20 +67,26 @@ module _ (p : Policy) (given : inRange p ≡ true) where
   charge-within left owner l w =
       set-within (cap p) left owner (getD left owner 0 - 1) l (omega (arith, w .within owner l)) w
 
+  -- at a home turn that its class takes nobody is charged
+  charged-within : (k : ℕ) (lengths left : List ℕ) (owner : ℕ) → owner < 16 → Within (cap p) left → Within (cap p) (charged p k lengths left owner)
+  unfolding charged
+  charged-within k lengths left owner l w = on-both (Within (cap p)) (takesHome p k lengths) left (charge left owner) w (charge-within left owner l w)
+
   -- ---- a turn's start
 
   start-kept : (k : ℕ) (lengths : List ℕ) (turns : Turns) → TurnsRange p turns → TurnsRange p (startTurn p k lengths (turns .left) (turns .pointers) .turns)
   unfolding startTurn ownedBy
   start-kept k lengths turns r =
       let left = leftAtStart p k (turns .left) in
+      let tried = leftTried p k left in
       let first = firstClass p k in
-      let reached = tryClass 16 (candidates (p .covers) lengths left) (turns .pointers) first in
+      let reached = tryClass 16 (candidates (p .covers) lengths tried) (turns .pointers) first in
       let laws = policy-laws p given in
-      let owner-class = laws .order .to-class first (reached .owner) (ascends p given 16 lengths left (turns .pointers) first (first-class p given k)) in
+      let owner-class = laws .order .to-class first (reached .owner) (ascends p given 16 lengths tried (turns .pointers) first (first-class p given k)) in
       record {
         owner-class = owner-class;
-        left-within = charge-within left (reached .owner) (laws .order .class-small (reached .owner) owner-class) (start-within k (turns .left) (r .left-within));
-        pointers-fit = pointers-within lengths left 16 (turns .pointers) first (first-small p given k) (r .pointers-fit);
+        left-within = charged-within k lengths left (reached .owner) (laws .order .class-small (reached .owner) owner-class) (start-within k (turns .left) (r .left-within));
+        pointers-fit = pointers-within lengths tried 16 (turns .pointers) first (first-small p given k) (r .pointers-fit);
       }
 
   pub turns-kept : (t : ℕ) (lengths : List ℕ) (turns : Turns) → TurnsRange p turns → TurnsRange p (turnsAt p t lengths turns .turns)

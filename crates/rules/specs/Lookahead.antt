@@ -5,8 +5,9 @@ use Prim.Native.Nat.{ℕ, zero, suc, _+_, _%_}
 use lib.Dec.{eqb}
 use lib.ListN.{getD}
 use Rattle.order.specs.Order.{flowsIn}
+use Rattle.policy.specs.Policy.{flows, least, homeTurn, homeClass}
 use Rattle.policy.specs.declared.Policy.{Policy}
-use Rattle.rules.specs.Traversal.{firstClass, named}
+use Rattle.rules.specs.Traversal.{named}
 
 -- what the lookahead goes by, with an entry for each class: its row, its covers, the turns it will have left, its pointer
 pub record Ahead : Type 0 where
@@ -45,6 +46,7 @@ nextLeft p k left = cond (eqb ((k + 1) % p .epoch) 0) (p .caps) left
 abbrev pub aheadOf : Policy → ℕ → List ℕ → List ℕ → Ahead
 aheadOf p k left pointers = lookingAhead (p .rows) (p .covers) (nextLeft p k left) pointers
 
--- "It is dropped when a trial walk .. reaches the owner": "it starts at the least class", where the next turn's traversal starts
+-- W-202: "before a home turn the dead time is dropped if and only if the owner may flow to the home class". "The trial walk serves only before" other turns: "It is dropped when a trial walk .. reaches the
+-- owner: it starts at the least class", where such a turn's traversal starts.
 unfoldable pub elides : Policy → ℕ → List ℕ → List ℕ → ℕ → Bool
-elides p k left pointers owner = reaches 16 (aheadOf p k left pointers) owner (firstClass p (k + 1))
+elides p k left pointers owner = cond (homeTurn p (k + 1)) (flows p owner (homeClass p (k + 1))) (reaches 16 (aheadOf p k left pointers) owner (least p))

@@ -6,7 +6,7 @@ use mathlib.Core.List.{List, [], _∷_}
 use Prim.Native.Nat.{ℕ, zero, suc, _+_, _-_, _%_, _<_}
 use lib.Dec.{ltb, eqb}
 use lib.ListN.{getD}
-use Rattle.policy.specs.Policy.{coverCount, cover}
+use Rattle.policy.specs.Policy.{coverCount, cover, flows, homeTurn, homeClass}
 use Rattle.policy.specs.declared.Policy.{Policy}
 use Rattle.requests.specs.Sizes.{lastCycle}
 use Rattle.requests.specs.Trace.{callOf}
@@ -16,7 +16,7 @@ use Rattle.state.specs.Fresh.{freshState}
 use Rattle.state.specs.Range.{inRange}
 use Rattle.state.specs.declared.State.{State}
 use Rattle.state.specs.declared.Turns.{Turns}
-use Rattle.rules.specs.Traversal.{firstClass, Candidates, candidates, movedPointer, passedAt, named, takes, tryClass}
+use Rattle.rules.specs.Traversal.{firstClass, Candidates, candidates, movedPointer, passedAt, named, takes, tryClass, leftTried}
 use Rattle.rules.specs.Step.{turnStarts, turnNumber, leftAtStart, turnWord}
 use Rattle.rules.specs.Calls.{answerTo, stateAfter}
 
@@ -44,7 +44,7 @@ passesTo (suc rest) all pointers from c =
 
 -- the classes as the traversal sees them at the start of the turn that the state's cycle starts
 abbrev pub seenAt : Policy → State → Candidates
-seenAt p s = candidates (p .covers) (s .queues .lengths) (leftAtStart p (turnNumber p (s .cycle)) (s .turns .left))
+seenAt p s = candidates (p .covers) (s .queues .lengths) (leftTried p (turnNumber p (s .cycle)) (leftAtStart p (turnNumber p (s .cycle)) (s .turns .left)))
 
 -- the class that is tried first there
 abbrev pub triedFirst : Policy → State → ℕ
@@ -112,13 +112,21 @@ Tries bound all pointers from c = (tryClass bound all pointers from .owner ≡ c
 
 -- the traversal of turn number k tries the owner of the turn before it, where so many requests wait
 abbrev pub TriesOwner : Policy → ℕ → Turns → List ℕ → Type 0
-TriesOwner p k turns lengths = Tries 16 (candidates (p .covers) lengths (leftAtStart p k (turns .left))) (turns .pointers) (firstClass p k) (turns .owner)
+TriesOwner p k turns lengths =
+    Tries 16 (candidates (p .covers) lengths (leftTried p k (leftAtStart p k (turns .left)))) (turns .pointers) (firstClass p k) (turns .owner)
 
--- "The trial walk follows.", of every policy in range and every turn's start
+-- the turn after the one that a tick of the state starts
+abbrev pub nextTurn : Policy → State → ℕ
+nextTurn p s = turnNumber p (s .cycle) + 1
+
+-- "The trial walk follows.", of every policy in range and every turn's start. W-202: "The trial walk serves only before" turns that are no home turns.
 pub record TrialFollows (p : Policy) : Type 0 where
   -- where the dead time is dropped, the next turn's traversal tries the owner, whatever waits by then
-  pub dropped : (s : State) → inRange p s ≡ true → tickStarts p s ≡ true → turnsAfter p s .elided ≡ true
-      → (lengths : List ℕ) → TriesOwner p (turnNumber p (s .cycle) + 1) (turnsAfter p s) lengths
+  pub dropped : (s : State) → inRange p s ≡ true → tickStarts p s ≡ true → homeTurn p (nextTurn p s) ≡ false → turnsAfter p s .elided ≡ true
+      → (lengths : List ℕ) → TriesOwner p (nextTurn p s) (turnsAfter p s) lengths
   -- where it is kept, that traversal does not try the owner if every class has a request waiting by then
-  pub kept : (s : State) → inRange p s ≡ true → tickStarts p s ≡ true → turnsAfter p s .elided ≡ false
-      → (lengths : List ℕ) → ((c : ℕ) → c < 16 → (getD lengths c 0 ≡ 0) → ⊥) → TriesOwner p (turnNumber p (s .cycle) + 1) (turnsAfter p s) lengths → ⊥
+  pub kept : (s : State) → inRange p s ≡ true → tickStarts p s ≡ true → homeTurn p (nextTurn p s) ≡ false → turnsAfter p s .elided ≡ false
+      → (lengths : List ℕ) → ((c : ℕ) → c < 16 → (getD lengths c 0 ≡ 0) → ⊥) → TriesOwner p (nextTurn p s) (turnsAfter p s) lengths → ⊥
+  -- W-202: "before a home turn the dead time is dropped if and only if the owner may flow to the home class"
+  pub before-home : (s : State) → inRange p s ≡ true → tickStarts p s ≡ true → homeTurn p (nextTurn p s) ≡ true
+      → turnsAfter p s .elided ≡ flows p (turnsAfter p s .owner) (homeClass p (nextTurn p s))

@@ -9,7 +9,7 @@ use Rattle.requests.specs.Word.{requestOf}
 use Rattle.queues.specs.Waiting.{lengthOf, waitingAt}
 use Rattle.flight.specs.Flight.{dueAt, sentAt}
 use Rattle.rules.specs.Queue.{dequeue}
-use Rattle.rules.specs.Traversal.{firstClass, candidates, Reached, tryClass, charge}
+use Rattle.rules.specs.Traversal.{firstClass, candidates, Reached, tryClass, leftTried, charged}
 use Rattle.rules.specs.Lookahead.{elides}
 use Rattle.rules.specs.Wire.{gapsMet, offsetAllows, activated}
 use Rattle.requests.specs.declared.Wires.{Wires}
@@ -41,19 +41,20 @@ pub record TurnStart : Type 0 where
   pub turns : Turns
   pub shown : ℕ
 
--- "Then the walk picks the owner." The owner's turns left fall, and the lookahead decides whether its dead time is elided.
-unfoldable pub ownedBy : Policy → ℕ → List ℕ → Reached → TurnStart
-ownedBy p k left reached =
-    let charged = charge left (reached .owner) in
-    let elided = elides p k charged (reached .pointers) (reached .owner) in
+-- "Then the walk picks the owner." It is charged, and it is decided whether its dead time is elided.
+unfoldable pub ownedBy : Policy → ℕ → List ℕ → List ℕ → Reached → TurnStart
+ownedBy p k lengths left reached =
+    let after = charged p k lengths left (reached .owner) in
+    let elided = elides p k after (reached .pointers) (reached .owner) in
     record {
-      turns = record { owner = reached .owner; elided = elided; left = charged; pointers = reached .pointers };
+      turns = record { owner = reached .owner; elided = elided; left = after; pointers = reached .pointers };
       shown = turnWord (reached .owner) elided;
     }
 
 unfoldable pub startTurn : Policy → ℕ → List ℕ → List ℕ → List ℕ → TurnStart
 startTurn p k lengths left pointers =
-    let now-left = leftAtStart p k left in ownedBy p k now-left (tryClass 16 (candidates (p .covers) lengths now-left) pointers (firstClass p k))
+    let now-left = leftAtStart p k left in
+    ownedBy p k lengths now-left (tryClass 16 (candidates (p .covers) lengths (leftTried p k now-left)) pointers (firstClass p k))
 
 -- the turns as a tick has them, and the number that it shows of them
 unfoldable pub turnsAt : Policy → ℕ → List ℕ → Turns → TurnStart

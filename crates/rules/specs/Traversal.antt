@@ -1,16 +1,16 @@
--- The traversal (document 01: the walk) gives a turn its owner. It tries the least class first, and ascends by round-robin pointers (document 01: marks).
+-- The traversal (document 01: the walk) gives a turn its owner. It tries the least class first, or at a home turn (W-202) its class, and ascends by round-robin pointers (document 01: marks).
 use mathlib.Core.Bool.{Bool, true, false, cond, not, _&&_, _||_}
 use mathlib.Core.List.{List}
 use Prim.Native.Nat.{ℕ, zero, suc, _+_, _-_}
 use lib.Dec.{ltb, eqb}
 use lib.ListN.{getD, set}
 use Rattle.masks.specs.Mask.{size, nth}
-use Rattle.policy.specs.Policy.{least}
+use Rattle.policy.specs.Policy.{least, homeTurn, homeClass}
 use Rattle.policy.specs.declared.Policy.{Policy}
 
--- "It tries the least class first.": the class where the traversal of a turn starts, by the turn's number
+-- W-202: "A home turn's walk starts at its class". "Other turns start at the least class.": the class where the traversal of a turn starts, by the turn's number
 unfoldable pub firstClass : Policy → ℕ → ℕ
-firstClass p k = least p
+firstClass p k = cond (homeTurn p k) (homeClass p k) (least p)
 
 -- the classes as the traversal sees them, with an entry for each: the set of its covers, how many of its requests wait, its turns left
 pub record Candidates : Type 0 where
@@ -69,3 +69,17 @@ tryClass (suc rest) all pointers c =
 -- "The owner's turns left fall by 1, not below 0."
 unfoldable pub charge : List ℕ → ℕ → List ℕ
 charge left owner = set left owner (getD left owner 0 - 1)
+
+-- ---- W-202: a home turn
+
+-- its class "takes it if a request waits"
+unfoldable pub takesHome : Policy → ℕ → List ℕ → Bool
+takesHome p k lengths = homeTurn p k && not (eqb (getD lengths (homeClass p k) 0) 0)
+
+-- "turns left or not": the traversal of turn number k goes by the turns left, and tries the class of a home turn as one that has a turn left
+unfoldable pub leftTried : Policy → ℕ → List ℕ → List ℕ
+leftTried p k left = cond (homeTurn p k) (set left (homeClass p k) 1) left
+
+-- "and is not charged; otherwise the walk ascends as usual and charges. An idle home class with nothing above it owns the turn and is charged."
+unfoldable pub charged : Policy → ℕ → List ℕ → List ℕ → ℕ → List ℕ
+charged p k lengths left owner = cond (takesHome p k lengths) left (charge left owner)

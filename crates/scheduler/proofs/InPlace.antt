@@ -10,8 +10,8 @@ use Rattle.scheduler.specs.declared.ticking.Moment.{Moment}
 use Rattle.state.specs.declared.State.{State}
 use Rattle.rules.proofs.Traversal.{climbs}
 
-pub climbs-lent : (p : Policy) (bottom : ℕ) (rows covers caps : List ℕ) → Lent p bottom rows covers caps → Climbs rows covers
-climbs-lent p bottom rows covers caps lent =
+pub climbs-lent : (p : Policy) (bottom free : ℕ) (rows covers caps : List ℕ) → Lent p bottom free rows covers caps → Climbs rows covers
+climbs-lent p bottom free rows covers caps lent =
     subst (λ (cs : List ℕ). Climbs rows cs) (sym (lent .covers-are)) (subst (λ (rs : List ℕ). Climbs rs (p .covers)) (sym (lent .rows-are)) (climbs p (lent .fit)))
 
 -- a state's arrays, with these numbers

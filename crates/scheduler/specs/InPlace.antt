@@ -3,6 +3,7 @@ use mathlib.Core.Path.{_≡_}
 use mathlib.Core.Bool.{Bool, true}
 use mathlib.Core.List.{List}
 use Prim.Native.Nat.{ℕ, _+_, _%_}
+use Rattle.turns.specs.Turns.{freeTurns}
 use Rattle.policy.specs.Policy.{least}
 use Rattle.policy.specs.Policy.{inRange as policyInRange}
 use Rattle.timing.specs.declared.Timing.{Timing}
@@ -18,21 +19,23 @@ use Rattle.scheduler.specs.declared.ticking.Moment.{Moment}
 use Rattle.scheduler.specs.declared.ticking.Called.{Called}
 use Rattle.state.specs.declared.State.{State}
 
--- what is lent beside a policy in range is the policy's: its least class, its rows, covers and caps
-pub record Lent (p : Policy) (bottom : ℕ) (rows covers caps : List ℕ) : Type 0 where
+-- what is lent beside a policy in range is the policy's: its least class, how many turns of an epoch come before its home turns, its rows, covers and caps
+pub record Lent (p : Policy) (bottom free : ℕ) (rows covers caps : List ℕ) : Type 0 where
   pub fit : policyInRange p ≡ true
   pub bottom-is : bottom ≡ least p
+  pub free-is : free ≡ freeTurns (p .epoch) (p .minimums)
   pub rows-are : rows ≡ p .rows
   pub covers-are : covers ≡ p .covers
   pub caps-are : caps ≡ p .caps
 
--- a state's numbers that stand in no array, with the offset in its turn and the policy's least class
+-- a state's numbers that stand in no array, with the offset in its turn and the policy's least class and turns before the home turns
 abbrev pub momentOf : Policy → State → Moment
 momentOf p s =
     record {
       cycle = s .cycle;
       offset = s .cycle % p .timing .turn;
       bottom = least p;
+      free = freeTurns (p .epoch) (p .minimums);
       classes = s .classes;
       owner = s .turns .owner;
       elided = s .turns .elided;
@@ -50,6 +53,7 @@ nextMoment timing m owner elided last =
       cycle = m .cycle + 1;
       offset = (m .cycle + 1) % timing .turn;
       bottom = m .bottom;
+      free = m .free;
       classes = m .classes;
       owner = owner;
       elided = elided;
@@ -86,10 +90,11 @@ answeredWith m status = record { moment = m; status = status; command = 0; respo
 pub record Working (p : Policy) (s : State) (m : Moment) (rows covers caps : List ℕ) : Type 0 where
   pub ranges : inRange p s ≡ true
   pub in-step : InStep p m
-  pub lent : Lent p (m .bottom) rows covers caps
+  pub lent : Lent p (m .bottom) (m .free) rows covers caps
 
--- the numbers after a call: the offset is in step again, and the least class and the class count are what they were
+-- the numbers after a call: the offset is in step again, and the policy's numbers and the class count are what they were
 pub record Continues (p : Policy) (m r : Moment) : Type 0 where
   pub in-step : InStep p r
   pub same-bottom : r .bottom ≡ m .bottom
+  pub same-free : r .free ≡ m .free
   pub same-count : r .classes ≡ m .classes

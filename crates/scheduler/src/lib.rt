@@ -135,6 +135,7 @@ fn calls(
         ≡ logOf p s (now (trace .entry)) ++ drop (4 * length (now (trace .entry))) (now (log .entry)) ⌝ }
 {
     let bottom = start.bottom;
+    let free = start.free;
     let classes = start.classes;
     let mut cycle = start.cycle;
     let mut offset = start.offset;
@@ -147,6 +148,7 @@ fn calls(
             cycle,
             offset,
             bottom,
+            free,
             classes,
             owner,
             elided,
@@ -188,6 +190,7 @@ fn calls(
         cycle,
         offset,
         bottom,
+        free,
         classes,
         owner,
         elided,

@@ -1,7 +1,10 @@
 // A tick in place, on the arrays of a state and of its policy. A single tick and a trace's ticks are made by it.
 
 ghost use mathlib.Core.Path.{_≡_};
+ghost use mathlib.Core.Bool.{true};
 ghost use Prim.Native.Nat.{_+_, _%_, _<_};
+ghost use Rattle.turns.specs.Turns.{freeTurns};
+ghost use Rattle.policy.specs.Policy.{least, inRange};
 ghost use Rattle.policy.specs.Laws.{TimingLaws};
 ghost use Rattle.requests.specs.Sizes.{lastCycle};
 ghost use Rattle.state.specs.declared.State.{State};
@@ -20,11 +23,13 @@ use state::Turns;
 use timing::Timing;
 use wires::Instant;
 
-// The numbers of a state that stand in no array, and two that need not be worked out at each tick: the offset in the turn, and the policy's least class.
+// The numbers of a state that stand in no array, and three that need not be worked out at each tick: the offset in the turn, the policy's least class, and how many
+// turns of an epoch come before its home turns.
 pub struct Moment {
     pub cycle: u32,
     pub offset: u32,
     pub bottom: usize,
+    pub free: u32,
     pub classes: usize,
     pub owner: usize,
     pub elided: bool,
@@ -40,8 +45,18 @@ pub struct Called {
     pub turn: u32,
 }
 
+// How many turns of an epoch come before its home turns: what the least class's cap has above its minimum.
+fn free_turns(p: Policy, bottom: usize) -> u32
+    requires { ⌜ (inRange p ≡ true) × (bottom ≡ least p) ⌝ }
+    ensures { λ r. ⌜ r ≡ freeTurns (p .epoch) (p .minimums) ⌝ }
+{
+    let caps = p.caps;
+    let minimums = p.minimums;
+    caps[bottom] - minimums[bottom]
+}
+
 pub(crate) fn moment_of(p: Policy, s: State) -> Moment
-    requires { ⌜ TimingLaws (p .timing) ⌝ }
+    requires { ⌜ inRange p ≡ true ⌝ }
     ensures { λ r. ⌜ r ≡ momentOf p s ⌝ }
 {
     let timing = p.timing;
@@ -49,10 +64,12 @@ pub(crate) fn moment_of(p: Policy, s: State) -> Moment
     let turns = s.turns;
     let flight = s.flight;
     let bottom = order::least_in(p.classes, rows);
+    let free = free_turns(p, bottom);
     Moment {
         cycle: s.cycle,
         offset: s.cycle % timing.turn,
         bottom,
+        free,
         classes: s.classes,
         owner: turns.owner,
         elided: turns.elided,
@@ -120,6 +137,7 @@ fn next_moment(timing: Timing, m: Moment, owner: usize, elided: bool, last: u32)
         cycle: m.cycle + 1,
         offset: next_offset(timing, m.cycle, m.offset),
         bottom: m.bottom,
+        free: m.free,
         classes: m.classes,
         owner,
         elided,

@@ -1,8 +1,8 @@
-// The turns: the epoch's length, each class's minimum, and the caps that follow from them.
+// The turns: the epoch's length, each class's minimum, the caps that follow from them, and whose the home turns are.
 
 ghost use mathlib.Core.Path.{_≡_};
 ghost use lib.ListN.{getD};
-ghost use Rattle.turns.specs.Turns.{minimumsSum, turnsSound, minimumsAbove, capIn};
+ghost use Rattle.turns.specs.Turns.{minimumsSum, turnsSound, minimumsAbove, capIn, homeAt};
 
 // What stands at a class in an array of numbers by class. What a number above 15 has is open in document 01: 0 here.
 pub fn number_of(numbers: [u32; 16], class: usize) -> u32
@@ -58,4 +58,21 @@ pub fn cap_in(classes: usize, rows: [u16; 16], epoch: u32, minimums: [u32; 16], 
     } else {
         0
     }
+}
+
+// The class of the home turn with the given place among those of its epoch, from 0: class by class in rising number, each as often as its minimum. Where there are not so many, which document 02 leaves open, 16:
+// no class.
+pub fn home_at(minimums: [u32; 16], place: u32) -> usize
+    ensures { λ r. ⌜ r ≡ homeAt minimums place ⌝ }
+{
+    let mut rest = place;
+    let mut class = 0;
+    while class < 16 {
+        if rest < minimums[class] {
+            return class;
+        }
+        rest -= minimums[class];
+        class += 1;
+    }
+    16
 }

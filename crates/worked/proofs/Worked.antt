@@ -1,7 +1,7 @@
 -- The worked turns: the table is computed from the definitions, and (a) and (e) are shown for every policy. The logs are computed without the test of the range at each call,
 -- which every state reached from fresh passes.
 -- Assumes nothing.
-use mathlib.Core.Path.{_≡_, refl, sym, ap, ap₂, _∙_}
+use mathlib.Core.Path.{_≡_, refl, sym, ap, ap₂, _∙_, subst}
 use mathlib.Core.Logic.{⊎-elim}
 use mathlib.Core.Bool.{Bool, true, not, _&&_}
 use mathlib.Core.List.{List, [], _∷_, _++_, map}
@@ -14,9 +14,9 @@ use lib.ListN.{length, getD}
 use Rattle.basics.specs.Below.{every, some, first, count, sum, setOf, listOf}
 use Rattle.masks.specs.Mask.{member, includes, size, nth, belowMask}
 use Rattle.order.specs.Order.{isClassIn, flowsIn, strictlyIn, rowFits, rowsFit, antisymmetricAt, antisymmetric, transitiveAt, transitive, hasLeast, leastAt, leastIn, betweenIn, coversIn, coverSet}
-use Rattle.turns.specs.Turns.{minimumsSum, turnsSound, minimumsAbove, capIn}
+use Rattle.turns.specs.Turns.{minimumsSum, turnsSound, minimumsAbove, capIn, freeTurns, homeTurnIn, homePlace, minimumsBelow, homeAt}
 use Rattle.timing.specs.Timing.{within, gapsWithin, bankWithin, timingSound}
-use Rattle.policy.specs.Policy.{isClass, least, above, coversOf, cap, firstFailing, policyTests, refusal, storedFits, allStoredFits, shaped, inRange}
+use Rattle.policy.specs.Policy.{isClass, flows, least, above, coversOf, cap, homeTurn, homeClass, firstFailing, policyTests, refusal, storedFits, allStoredFits, shaped, inRange}
 use Rattle.file.specs.File.{byte, word, kind, start, bodySize, kindsFit, bodiesAbut, contentsFit, classCount, lengthsFit, rowAt, epochOf, minimumAt, timingOf, held, noPolicy, fileTests, status, refusedWith, readFile}
 use Rattle.file.specs.Taken.{policyOf}
 use Rattle.policy.specs.declared.Policy.{Policy}
@@ -27,7 +27,7 @@ use Rattle.requests.specs.Word.{classOf, kindOf, bankOf, tagOf, isOffer, reques
 use Rattle.queues.specs.Waiting.{headOf, lengthOf, place, waitingAt}
 use Rattle.flight.specs.Flight.{dueAt, activateAt, activateNext, activateKind, sentAt}
 use Rattle.rules.specs.Queue.{enqueue, dequeue, offerStatus, queuesAfter}
-use Rattle.rules.specs.Traversal.{firstClass, candidates, moved, movedPointer, passedAt, named, takesBy, takes, endsAt, tryClass, charge}
+use Rattle.rules.specs.Traversal.{firstClass, candidates, moved, movedPointer, passedAt, named, takesBy, takes, endsAt, tryClass, charge, takesHome, leftTried, charged}
 use Rattle.rules.specs.Lookahead.{goesOn, reaches, aheadOf, nextLeft, elides}
 use Rattle.rules.specs.Wire.{gapMet, gapsMetBy, gapsMet, offsetAllows, activated}
 use Rattle.rules.specs.Step.{turnStarts, turnNumber, leftAtStart, ownedBy, startTurn, turnsAt, turnWord, goesAt, going, canActivate, drive, answered}
@@ -36,12 +36,12 @@ use Rattle.state.specs.Range.{inRange as stateRange}
 use Rattle.rules.specs.Call.{offerOn, silent, afterTick, tickOn, tick}
 use Rattle.requests.specs.Trace.{callOf}
 use Rattle.rules.specs.Calls.{Answer, ticked, offered, answer, answerTo, logOf}
-use Rattle.worked.specs.Worked.{example, alone, pair, fork, spare, chain, ticks, reads, everySecond, logFrom, turnsIn, turnsFrom, printed, Case, table, WorkedTurns}
+use Rattle.worked.specs.Worked.{example, alone, pair, fork, spare, chain, full, ticks, reads, everySecond, logFrom, turnsIn, turnsFrom, startOf, printed, Case, table, WorkedTurns}
 use Rattle.state.specs.declared.State.{State}
 use Rattle.requests.specs.declared.Call.{Call}
 use Rattle.requests.specs.declared.Call.the-variants.{Tick, Offer, Malformed}
 use Rattle.rules.proofs.Traversal.{traverse, falls, climbs, first-class, ascends}
-use Rattle.rules.proofs.Lookahead.{reach-here}
+use Rattle.rules.proofs.Lookahead.{elides-home, elides-other, reach-here}
 use Rattle.rules.proofs.Call.{offer-is}
 use Rattle.rules.proofs.Range.{in-range}
 use Rattle.rules.proofs.CallsKept.{fresh-ranged}
@@ -92,7 +92,7 @@ plain-right p s (w ∷ ws) e =
     ∙ ap (λ (x : Answer). x .status ∷ x .command ∷ x .response ∷ x .turn ∷ plain-log p (x .state) ws) (plainly p s (callOf w) e)
 
 log-computed : Policy → List ℕ → List ℕ
-unfolding policy-computed plain plain-log ticks reads callOf isOffer requestOf wordOf classOf kindOf bankOf tagOf columnNumber commandNumber classFits bankAndKindFit offerOn offerStatus queuesAfter enqueue dequeue headOf lengthOf place waitingAt freshState stateAtStart emptyQueues nothingInFlight zeros silent afterTick tickOn turnsAt turnStarts turnNumber turnWord goesAt going canActivate drive answered dueAt sentAt activateAt activateNext activateKind gapMet gapsMetBy gapsMet offsetAllows activated first count size nth moved movedPointer named takesBy takes passedAt endsAt tryClass charge goesOn reaches nextLeft firstClass elides leftAtStart ownedBy startTurn least leastIn flowsIn leastAt every member
+unfolding policy-computed plain plain-log ticks reads callOf isOffer requestOf wordOf classOf kindOf bankOf tagOf columnNumber commandNumber classFits bankAndKindFit offerOn offerStatus queuesAfter enqueue dequeue headOf lengthOf place waitingAt freshState stateAtStart emptyQueues nothingInFlight zeros silent afterTick tickOn turnsAt turnStarts turnNumber turnWord goesAt going canActivate drive answered dueAt sentAt activateAt activateNext activateKind gapMet gapsMetBy gapsMet offsetAllows activated first count size nth moved movedPointer named takesBy takes passedAt endsAt tryClass charge goesOn reaches nextLeft firstClass elides leftAtStart ownedBy startTurn least leastIn flowsIn leastAt every member freeTurns homeTurnIn homePlace minimumsBelow homeAt minimumsSum homeTurn homeClass flows takesHome leftTried charged
 log-computed p ws = plain-log p (freshState p) ws
 
 -- every state reached from the fresh one of a policy in range is in range
@@ -128,6 +128,10 @@ fits-chain : inRange chain ≡ true
 unfolding chain range-computed
 fits-chain = refl
 
+fits-full : inRange full ≡ true
+unfolding full range-computed
+fits-full = refl
+
 fits-printed : inRange (readFile (printed 0 2) .policy) ≡ true
 unfolding file-computed range-computed
 fits-printed = refl
@@ -138,31 +142,43 @@ also : {xs ys : List ℕ} → {xss yss : List (List ℕ)} → xs ≡ ys → xss 
 also e es = ap₂ (λ (l : List ℕ) (ls : List (List ℕ)). l ∷ ls) e es
 
 cases : map (λ (c : Case). c .yielded) table ≡ map (λ (c : Case). c .stated) table
-unfolding table alone pair fork chain turns-computed file-computed
+unfolding table alone pair fork chain full startOf turns-computed file-computed
 cases =
     also (turns-from alone fits-alone (ticks 13))
     (also (turns-from pair fits-pair (reads 3 0 ++ ticks 9))
-    (also (turns-from fork fits-fork (reads 5 0 ++ ticks 13))
+    (also (turns-from fork fits-fork (reads 3 0 ++ ticks 9))
     (also (turns-from chain fits-chain (reads 3 0 ++ reads 3 1 ++ ticks 9))
-    (also (turns-from fork fits-fork (ticks 5))
+    (also (turns-from fork fits-fork (ticks 13))
     (also (from-fresh alone fits-alone (reads 9 0 ++ ticks 1 ++ reads 1 0))
     (also refl
     (also (from-fresh (readFile (printed 0 2) .policy) fits-printed (0x80010007 ∷ 0 ∷ 0 ∷ 0 ∷ []))
-    refl)))))))
+    (also (turns-from full fits-full (reads 1 1 ++ ticks 17))
+    refl))))))))
 
 -- ---- (a)
 
 a : (p : Policy) → inRange p ≡ true → p .classes ≡ 1 → (k : ℕ) (lengths left pointers : List ℕ) → (startTurn p k lengths left pointers .turns .owner ≡ 0) × (startTurn p k lengths left pointers .turns .elided ≡ true)
-unfolding startTurn ownedBy elides isClass isClassIn
+unfolding startTurn ownedBy isClass isClassIn
 a p given one k lengths left pointers =
     let laws = policy-laws p given in
     let now = leftAtStart p k left in
+    let tried = leftTried p k now in
     let only : (c : ℕ) → isClass p c ≡ true → c ≡ 0 = λ c l. omega (arith, ltb-true c (p .classes) l, one) in
-    let reached = tryClass 16 (candidates (p .covers) lengths now) pointers (firstClass p k) in
-    let first = first-class p given k in
-    let owner = only (reached .owner) (laws .order .to-class (firstClass p k) (reached .owner) (ascends p given 16 lengths now pointers (firstClass p k) first)) in
-    let next = firstClass p (k + 1) in
-    (owner, reach-here (aheadOf p k (charge now (reached .owner)) (reached .pointers)) (reached .owner) 16 next (eq-eqb next (reached .owner) (only next (first-class p given (k + 1)) ∙ sym owner)))
+    let reached = tryClass 16 (candidates (p .covers) lengths tried) pointers (firstClass p k) in
+    let owner-class = laws .order .to-class (firstClass p k) (reached .owner) (ascends p given 16 lengths tried pointers (firstClass p k) (first-class p given k)) in
+    let owner = only (reached .owner) owner-class in
+    let after = charged p k lengths now (reached .owner) in
+    let drops : elides p k after (reached .pointers) (reached .owner) ≡ true =
+    ⊎-elim
+    (λ home.
+    let same = owner ∙ sym (only (homeClass p (k + 1)) (laws .homes .of-class (k + 1) home)) in
+    elides-home p k after (reached .pointers) (reached .owner) home ∙ subst (λ (c : ℕ). flows p (reached .owner) c ≡ true) same (laws .order .reflexive (reached .owner) owner-class))
+    (λ other.
+    elides-other p k after (reached .pointers) (reached .owner) other
+    ∙ reach-here (aheadOf p k after (reached .pointers)) (reached .owner) 16 (least p) (eq-eqb (least p) (reached .owner) (only (least p) (laws .lowest .is-class) ∙ sym owner)))
+    (either (homeTurn p (k + 1)))
+    in
+    (owner, drops)
 
 -- ---- (e)
 
@@ -189,7 +205,7 @@ module _ (p : Policy) (given : inRange p ≡ true) (lengths left : List ℕ) (no
 e : (p : Policy) → inRange p ≡ true → (k : ℕ) (lengths left pointers : List ℕ) → ((c : ℕ) → getD lengths c 0 ≡ 0) → coversOf p (startTurn p k lengths left pointers .turns .owner) ≡ 0
 unfolding startTurn ownedBy
 e p given k lengths left pointers nobody =
-    idle-ends p given lengths (leftAtStart p k left) nobody 16 pointers (firstClass p k) (le-of-lt (policy-laws p given .higher .few (firstClass p k)))
+    idle-ends p given lengths (leftTried p k (leftAtStart p k left)) nobody 16 pointers (firstClass p k) (le-of-lt (policy-laws p given .higher .few (firstClass p k)))
 
 pub worked-turns : WorkedTurns
 unfolding spare turns-computed everySecond

@@ -1,4 +1,5 @@
--- Document 01's "Worked turns" (a) to (h): one table, whose cases the definitions yield. (a) and (e) speak of every turn, so they are stated of every policy too.
+-- Document 01's "Worked turns" (a) to (h), of which W-202 changes (c) and (d), and W-202's own: one table, whose cases the definitions yield. (a) and (e) speak of every turn, so they are stated of
+-- every policy too.
 use mathlib.Core.Path.{_≡_}
 use mathlib.Core.Bool.{true, false}
 use mathlib.Core.List.{List, [], _∷_, _++_, map}
@@ -28,7 +29,7 @@ pair = example (3 ∷ 2 ∷ []) 3 (0 ∷ 2 ∷ []) 2
 
 -- 0 below 1 and 2, which are incomparable
 unfoldable pub fork : Policy
-fork = example (7 ∷ 2 ∷ 4 ∷ []) 4 (0 ∷ 1 ∷ 1 ∷ []) 3
+fork = example (7 ∷ 2 ∷ 4 ∷ []) 3 (0 ∷ 1 ∷ 1 ∷ []) 3
 
 -- the same with an epoch of 8 turns and no minimums, so that class 0 has turns left
 unfoldable pub spare : Policy
@@ -37,6 +38,10 @@ spare = example (7 ∷ 2 ∷ 4 ∷ []) 8 (0 ∷ 0 ∷ 0 ∷ []) 3
 -- a chain of three
 unfoldable pub chain : Policy
 chain = example (7 ∷ 6 ∷ 4 ∷ []) 3 (0 ∷ 1 ∷ 1 ∷ []) 3
+
+-- 1 below 0, and minimums that fill the epoch: each turn is a home turn, of 0 and of 1 by turns
+unfoldable pub full : Policy
+full = example (1 ∷ 3 ∷ []) 2 (1 ∷ 1 ∷ []) 2
 
 -- ---- traces and logs
 
@@ -64,6 +69,10 @@ turnsIn (suc calls) log = elim (eqb (getD log 3 0) 0) [ true ↦ turnsIn calls (
 unfoldable pub turnsFrom : Policy → List ℕ → List ℕ
 turnsFrom p trace = turnsIn (length trace) (logFrom p trace)
 
+-- one turn's start, by its number, how many of each class wait and the turns left before it: the number that it shows, and the turns left after it
+unfoldable pub startOf : Policy → ℕ → List ℕ → List ℕ → List ℕ
+startOf p k lengths left = let start = startTurn p k lengths left (zeros 16) in start .shown ∷ start .turns .left
+
 -- the printed policy file, with these minimums
 unfoldable pub printed : ℕ → ℕ → List ℕ
 printed m₀ m₁ =
@@ -71,8 +80,8 @@ printed m₀ m₁ =
 
 -- ---- the table
 
--- what the definitions yield, and what document 01 says. In a turn of these four cycles an owner activates two requests at most, so a class that was offered one more than
--- its turns can send is "always waiting".
+-- what the definitions yield, and what documents 01 and 02 say. In a turn of these four cycles an owner activates two requests at most, so a class that was offered one more than
+-- its turns can send is "always waiting". A turn's number is 1 + owner, and 256 more where the dead time is dropped.
 pub record Case : Type 0 where
   pub yielded : List ℕ
   pub stated : List ℕ
@@ -81,14 +90,18 @@ unfoldable pub table : List Case
 table =
     -- (a) "n = 1 owns every turn and always drops"
     record { yielded = turnsFrom alone (ticks 13); stated = 257 ∷ 257 ∷ 257 ∷ 257 ∷ [] }
-    -- (b) "two classes 0 below 1, E = 3, minimums 0 and 2, class 0 always waiting: owners 0, 1, 1, dead time dropped, dropped, kept"
+    -- (b) "two classes 0 below 1, E = 3, minimums 0 and 2, class 0 always waiting: owners 0, 1, 1, dead time dropped, dropped, kept". Turns 1 and 2 are home turns of 1, which is idle with nothing above it.
+    -- 0 and 1 may flow to 1, whose home turn is next; after turn 2 comes the next epoch's first turn, where the trial walk fails at 0, which has its cap again.
     ∷ record { yielded = turnsFrom pair (reads 3 0 ++ ticks 9); stated = 257 ∷ 258 ∷ 2 ∷ [] }
-    -- (c) "0 below 1 and 2, both incomparable, caps of 0 used up: after a turn of 1 the walk goes to 2, so 1 keeps its dead time"
-    ∷ record { yielded = turnsFrom fork (reads 5 0 ++ ticks 13); stated = 257 ∷ 257 ∷ 2 ∷ 3 ∷ [] }
-    -- (d) "a chain of three, E = 3, minimums 0, 1, 1, classes 0 and 1 always waiting: owners 0, 1, 1"
-    ∷ record { yielded = turnsFrom chain (reads 3 0 ++ reads 3 1 ++ ticks 9); stated = 257 ∷ 258 ∷ 2 ∷ [] }
-    -- (e) "nobody waits: the walk ends at a class with nothing above"
-    ∷ record { yielded = turnsFrom fork (ticks 5); stated = 2 ∷ 3 ∷ [] }
+    -- (c) "0 below 1 and 2, both incomparable, caps of 0 used up: after a turn of 1 the walk goes to 2, so 1 keeps its dead time". W-202: "case (c) is taken with E = 3 and minimums 0, 1, 1, where the
+    -- turn after 1's is the home turn of 2". 0 may flow to 1 and drops, 1 may not flow to 2; 2 keeps as 1 does in (b).
+    ∷ record { yielded = turnsFrom fork (reads 3 0 ++ ticks 9); stated = 257 ∷ 2 ∷ 3 ∷ [] }
+    -- (d) "a chain of three, E = 3, minimums 0, 1, 1, classes 0 and 1 always waiting". W-202: "Case (d) then gives 0, 1, 2". After turn 0 come the home turns of 1, which waits, and of 2, which is idle with
+    -- nothing above it. 0 may flow to 1 and 1 to 2, so both drop; 2 keeps as 1 does in (b).
+    ∷ record { yielded = turnsFrom chain (reads 3 0 ++ reads 3 1 ++ ticks 9); stated = 257 ∷ 258 ∷ 3 ∷ [] }
+    -- (e) "nobody waits: the walk ends at a class with nothing above". From 0 it goes to 1 in turn 0 and to 2 in turn 3, as 0's mark names them; turns 1 and 2 are the home turns of 1 and 2. Before its own home
+    -- turn 1 drops, and before the other's each keeps; 2 in turn 2 keeps as in (c).
+    ∷ record { yielded = turnsFrom fork (ticks 13); stated = 258 ∷ 2 ∷ 3 ∷ 3 ∷ [] }
     -- (f) "the eighth offer is taken, the ninth gets 11, and after an activate one more is taken"
     ∷ record {
       yielded = logFrom alone (reads 9 0 ++ ticks 1 ++ reads 1 0);
@@ -96,11 +109,23 @@ table =
     }
     -- (g) "a sum of minimums equal to E is taken, one equal to E + 1 gets 7"
     ∷ record { yielded = readFile (printed 1 2) .status ∷ readFile (printed 2 2) .status ∷ []; stated = 0 ∷ 7 ∷ [] }
-    -- (h) "the log above"
+    -- (h) "the log above": 0 may flow to 1, whose home turn is next, so it drops
     ∷ record {
       yielded = logFrom (readFile (printed 0 2) .policy) (0x80010007 ∷ 0 ∷ 0 ∷ 0 ∷ []);
       stated = 0 ∷ 0 ∷ 0 ∷ 0 ∷ 0 ∷ 0x80010007 ∷ 0 ∷ 0x101 ∷ 0 ∷ 0xC0010007 ∷ 0 ∷ 0 ∷ 0 ∷ 0 ∷ 0x80010007 ∷ 0 ∷ [];
     }
+    -- W-202, where S = E: each turn is a home turn, the epoch's first too, so turn 0 is 0's though the least class, 1, has a request waiting and turns left. It goes out in turn 1, and in turn 3 class 1 is
+    -- idle, so the walk ascends to 0. 0 may not flow to 1, and keeps before 1's home turns; before 0's, at an epoch's end, 1 and 0 drop, though in turn 3 a trial walk would fail at 1.
+    ∷ record { yielded = turnsFrom full (reads 1 1 ++ ticks 17); stated = 1 ∷ 258 ∷ 1 ∷ 257 ∷ 1 ∷ [] }
+    -- W-202: "which takes it if a request waits, turns left or not, and is not charged". Turn 1 of the chain, the home turn of 1: 1 waits and has no turns left, owns the turn and drops before the home turn
+    -- of 2; all turns left stay
+    ∷ record { yielded = startOf chain 1 (1 ∷ 1 ∷ 0 ∷ []) (0 ∷ 0 ∷ 3 ∷ []); stated = 258 ∷ 0 ∷ 0 ∷ 3 ∷ [] }
+    -- and the same with two turns left, of which it keeps both
+    ∷ record { yielded = startOf chain 1 (1 ∷ 1 ∷ 0 ∷ []) (0 ∷ 2 ∷ 3 ∷ []); stated = 258 ∷ 0 ∷ 2 ∷ 3 ∷ [] }
+    -- "otherwise the walk ascends as usual and charges": in the same turn 1 is idle, so 2 owns it, drops before its own home turn, and has one turn less
+    ∷ record { yielded = startOf chain 1 (1 ∷ 0 ∷ 0 ∷ []) (0 ∷ 2 ∷ 3 ∷ []); stated = 259 ∷ 0 ∷ 2 ∷ 2 ∷ [] }
+    -- "An idle home class with nothing above it owns the turn and is charged.": 2 in turn 2, as in (d)
+    ∷ record { yielded = startOf chain 2 (1 ∷ 1 ∷ 0 ∷ []) (0 ∷ 2 ∷ 3 ∷ []); stated = 3 ∷ 0 ∷ 2 ∷ 2 ∷ [] }
     ∷ []
 
 pub record WorkedTurns : Type 0 where

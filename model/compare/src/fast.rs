@@ -1,12 +1,12 @@
-//! The rules of document 01, with request W-201 of document 02, written for
-//! speed: the measure of what a run could cost.
+//! The rules of document 01, with requests W-201 and W-202 of document 02, written
+//! for speed: the measure of what a run could cost.
 //!
 //! One struct holds policy and state in fixed arrays and is changed in place.
 //! Nothing is allocated after [`Controller::new`], and a tick that starts no
 //! turn neither divides nor looks at any class but the owner. Ticks are still
 //! made one by one: no stretch of idle ticks is skipped.
 
-use vigambul_model::policy::{self, Policy, MOST_CLASSES};
+use vigambul_model::policy::{self, Policy, LONGEST_EPOCH, MOST_CLASSES};
 use vigambul_model::state::{BANKS, LAST_CYCLE, QUEUE_LIMIT};
 use vigambul_model::trace::{COLUMN_BIT, ELIDED, LINE, OFFER_BIT};
 
@@ -17,6 +17,9 @@ const SLOTS: usize = 32;
 
 /// Bits 22, 23, 29 and 30, which are 0 in an offer.
 const UNUSED_BITS: u32 = 0x60C0_0000;
+
+/// Marks a home turn in the plan; the bits below it are the class.
+const HOME: u8 = 1 << 4;
 
 // Numbers of document 01's table.
 const CLASS: u32 = 9;
@@ -40,6 +43,9 @@ pub struct Controller {
     caps: [u8; MOST_CLASSES],
     /// The classes with a cap above 0.
     with_caps: u16,
+    /// The class that the walk of each turn of an epoch starts at, with a bit set where
+    /// that is its home turn.
+    plan: [u8; LONGEST_EPOCH as usize],
     epoch: u32,
     turn_length: u32,
     dead_time: u32,
@@ -106,6 +112,7 @@ impl Controller {
             tops: 0,
             caps: [0; MOST_CLASSES],
             with_caps: 0,
+            plan: [0; LONGEST_EPOCH as usize],
             epoch: u32::from(policy.epoch),
             turn_length: u32::from(timing.turn_length),
             dead_time: u32::from(timing.dead_time),
@@ -140,6 +147,15 @@ impl Controller {
             controller.child_count[class] = children.len() as u8;
             controller.tops |= u16::from(children.is_empty()) << class;
             controller.with_caps |= u16::from(policy.caps[class] > 0) << class;
+        }
+        // The last turns of an epoch, as many as the minimums sum up to.
+        let others = usize::from(policy.epoch - policy.minimums.iter().sum::<u8>());
+        controller.plan[..others].fill(controller.least as u8);
+        let mut place = others;
+        for (class, &minimum) in policy.minimums.iter().enumerate() {
+            let end = place + usize::from(minimum);
+            controller.plan[place..end].fill(class as u8 | HOME);
+            place = end;
         }
         // Turns left and window are set when the first tick starts an epoch.
         controller
@@ -245,12 +261,17 @@ impl Controller {
             self.turns_left = self.caps;
             self.with_turns = self.with_caps;
         }
+        self.walk(self.plan[self.turn_in_epoch as usize]);
         self.turn_in_epoch += 1;
         if self.turn_in_epoch == self.epoch {
             self.turn_in_epoch = 0;
         }
-        self.walk();
-        let elided = self.trial_reaches_owner();
+        let next = self.plan[self.turn_in_epoch as usize];
+        let elided = if next & HOME != 0 {
+            self.rows[self.owner] >> (next ^ HOME) & 1 == 1
+        } else {
+            self.trial_reaches_owner()
+        };
         self.next_turn = self.cycle + self.turn_length;
         self.window_end = if elided {
             self.next_turn
@@ -260,11 +281,16 @@ impl Controller {
         1 + self.owner as u32 + if elided { ELIDED } else { 0 }
     }
 
-    /// Picks the owner, moves the marks of the classes that pass the turn on, and
-    /// takes one of the owner's turns left.
-    fn walk(&mut self) {
+    /// Picks the owner from a place of the plan, moves the marks of the classes that
+    /// pass the turn on, and takes one of the owner's turns left, unless it is a home
+    /// class whose request waits.
+    fn walk(&mut self, first: u8) {
+        let mut class = usize::from(first & !HOME);
+        if first & HOME != 0 && self.waiting >> class & 1 == 1 {
+            self.owner = class;
+            return;
+        }
         let takers = self.waiting & self.with_turns | self.tops;
-        let mut class = self.least;
         while takers >> class & 1 == 0 {
             // W-201: "it moves first and then names the child". A class that does
             // not take the turn has children, so the moved mark is not 0.

@@ -58,23 +58,25 @@ fn diamond() -> PolicyFields {
     PolicyFields::new(&[0b1111, 0b1010, 0b1100, 0b1000], 8, &[1, 2, 2, 1], TIMING)
 }
 
-/// All sixteen in a row. Every class but the highest has a cap of 1, so that
-/// each of them owns one turn of an epoch, and walks end at every height.
+/// All sixteen in a row, each but the least with a home turn: every class owns one
+/// turn of an epoch, and where nobody waits, walks to the top start at every height.
 fn chain(timing: [u8; 10]) -> PolicyFields {
     let rows: Vec<u16> = (0..MOST_CLASSES).map(|class| 0xFFFF << class).collect();
-    let mut minimums = [0; MOST_CLASSES];
-    minimums[MOST_CLASSES - 1] = 15;
-    PolicyFields::new(&rows, 16, &minimums, timing)
+    PolicyFields::new(&rows, 16, &ONE_BUT_OF_THE_LEAST, timing)
 }
 
-/// Class 0 below fifteen that are incomparable. Its cap is 1, so that the
-/// others own the other fifteen turns of an epoch.
+/// Minimums that leave class 0 one turn of sixteen, and each other class its own.
+const ONE_BUT_OF_THE_LEAST: [u8; MOST_CLASSES] = {
+    let mut minimums = [1; MOST_CLASSES];
+    minimums[0] = 0;
+    minimums
+};
+
+/// Class 0 below fifteen that are incomparable, each with a home turn.
 fn antichain() -> PolicyFields {
     let mut rows: Vec<u16> = (0..MOST_CLASSES).map(|class| 1 << class).collect();
     rows[0] = 0xFFFF;
-    let mut minimums = [1; MOST_CLASSES];
-    minimums[0] = 0;
-    PolicyFields::new(&rows, 16, &minimums, TIMING)
+    PolicyFields::new(&rows, 16, &ONE_BUT_OF_THE_LEAST, TIMING)
 }
 
 fn accepted(fields: &PolicyFields) -> (Vec<u8>, Policy) {

@@ -18,6 +18,7 @@ use vigambul_model::leaks::{self, Check, Cut, Pair, ORDINARY_PAIRS, PAIRS_ENOUGH
 use vigambul_model::met::Met;
 use vigambul_model::planted::{self, Planted};
 use vigambul_model::random::Random;
+use vigambul_model::state;
 use vigambul_model::trace::{Word, LINE};
 
 /// No number of a log or of an extract looks like this.
@@ -157,6 +158,8 @@ fn every_planted_leak_of_the_model_is_found() {
         let check = match planted {
             // A refused run of the library leaves no state to go on from.
             Planted::RefusedRunMakesItsCalls => continue,
+            // Turns left decide no owner in a list from fresh, so no log shows them.
+            Planted::HomeChargedIfHigherWaits => continue,
             _ => finds(&Model(planted), &format!("{planted:?}")),
         };
         let by_the_run = planted == Planted::RunAnswersForItsLastWord;
@@ -205,6 +208,7 @@ const REFUSED_TICKS: usize = 60;
 fn pair_past_the_last_tick() -> Pair {
     let file = diamond();
     let policy = accepted(&file);
+    let (start, _) = state::fresh(&policy);
     let class = 0;
     let seen = |number: u32| match Word::of(number) {
         Word::Offer(request) => policy.flows(usize::from(request.class), class),
@@ -236,6 +240,7 @@ fn pair_past_the_last_tick() -> Pair {
         file,
         policy,
         class,
+        start,
         lists: [left, right],
         cuts: [Cut::OneRun; 2],
     }

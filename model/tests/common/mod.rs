@@ -47,6 +47,19 @@ pub fn fresh(policy: &Policy) -> State {
     state
 }
 
+/// A state at the start of turn 1, with the turns left of some classes changed.
+///
+/// Since W-202 no class that a walk comes to is without turns left in a list of calls
+/// from the fresh state (`promises.rs`). A caller may hand in such a state all the same.
+pub fn with_turns_left(policy: &Policy, left: &[(usize, u8)]) -> State {
+    let mut state = fresh(policy);
+    state.cycle = u32::from(policy.timing.turn_length);
+    for &(class, turns) in left {
+        state.classes[class].left = turns;
+    }
+    state
+}
+
 /// The number that a file is refused with; 0 if it is taken.
 pub fn file_number(file: &[u8]) -> u32 {
     policy::read(file).1.map_or(0, |refusal| refusal.number())

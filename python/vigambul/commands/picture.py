@@ -33,7 +33,7 @@ def add(commands):
         "picture",
         help="a run as a picture",
         description="Runs a folder's trace and draws what happened: a row for each class, turns as bars, kept dead time hatched,\n"
-        "and marks for offers, refusals, activates and answers.\n"
+        "home turns as lines, and marks for offers, refusals, activates and answers.\n"
         "Without --to, %d turns are drawn." % TURNS_SHOWN,
         epilog="examples:\n  vig picture examples/two-tenants-busy -o busy.svg\n  vig picture examples/diamond --from 15 --to 34 -o top.svg",
     )

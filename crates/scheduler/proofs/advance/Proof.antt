@@ -6,7 +6,6 @@ use mathlib.Core.List.{_++_}
 use Prim.Native.Nat.{_*_}
 use borrow.Author.Needs.{needs}
 use lib.ListN.{length, drop}
-use Rattle.policy.proofs.Laws.{policy-laws}
 use Rattle.state.specs.Range.{inRange}
 use Rattle.rules.specs.Calls.{stateAfter, logOf}
 use Rattle.scheduler.specs.InPlace.{InStep, momentOf}
@@ -33,7 +32,7 @@ same-state : (c : tie.After-moment-of) → with-numbers (start-moment c .args .s
 same-state c = ap (with-numbers (start-moment c .args .s)) (c .moment-of .ensures)
 
 moment-of-requires : tie.Need-moment-of-requires
-moment-of-requires c κs = let s = start-apart c in policy-laws (s .args .p) (ranged (s .args .p) (s .args .s) (s .pre .0) .fit) .timed
+moment-of-requires c κs = let s = start-apart c in ranged (s .args .p) (s .args .s) (s .pre .0) .fit
 
 calls-requires : tie.Need-calls-requires
 calls-requires c κs =
@@ -45,7 +44,7 @@ calls-requires c κs =
       record {
         ranges = subst (λ (x : State). inRange p x ≡ true) (sym (same-state at)) (s .pre .0);
         in-step = subst (InStep p) (sym e) refl;
-        lent = record { fit = fit; bottom-is = ap (λ (m : Moment). m .bottom) e; rows-are = refl; covers-are = refl; caps-are = refl };
+        lent = record { fit = fit; bottom-is = ap (λ (m : Moment). m .bottom) e; free-is = ap (λ (m : Moment). m .free) e; rows-are = refl; covers-are = refl; caps-are = refl };
       },
       s .pre .1,
     )

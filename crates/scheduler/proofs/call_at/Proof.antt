@@ -59,7 +59,7 @@ left-by s r = answerOf r (with-numbers s (r .moment))
 -- a call that shows nothing leaves the numbers
 stays-by : (s : tie.Start) (r : Called) {k : ℕ} → r ≡ answeredWith (s .args .m) k → Continues (s .args .p) (s .args .m) (r .moment)
 stays-by s r e =
-    subst (λ (x : Called). Continues (s .args .p) (s .args .m) (x .moment)) (sym e) (record { in-step = s .pre .in-step; same-bottom = refl; same-count = refl })
+    subst (λ (x : Called). Continues (s .args .p) (s .args .m) (x .moment)) (sym e) (record { in-step = s .pre .in-step; same-bottom = refl; same-free = refl; same-count = refl })
 
 -- the word, told apart, is the call
 told : (c : tie.After-call-of) (call : Call) → c .call-of .result ≡ call → callOf (start-told c .args .word) ≡ call

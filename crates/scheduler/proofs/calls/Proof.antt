@@ -36,17 +36,17 @@ written-long log at a =
     ∙ length-set log at (a .status)
 
 -- the numbers of a state, put together
-abbrev numbers : ℕ → ℕ → ℕ → ℕ → ℕ → Bool → ℕ → Moment
-numbers cycle offset bottom classes owner elided last = record { cycle = cycle; offset = offset; bottom = bottom; classes = classes; owner = owner; elided = elided; last = last }
+abbrev numbers : ℕ → ℕ → ℕ → ℕ → ℕ → ℕ → Bool → ℕ → Moment
+numbers cycle offset bottom free classes owner elided last = record { cycle = cycle; offset = offset; bottom = bottom; free = free; classes = classes; owner = owner; elided = elided; last = last }
 
 abbrev Inv-loop : tie.InvT-loop
-Inv-loop p rows covers caps slots₀ heads₀ lengths₀ left₀ pointers₀ columns₀ responses₀ banks₀ trace log₀ bottom classes cycle₀ offset₀ owner₀ elided₀ last₀ i₀ slots heads lengths left pointers columns responses banks log cycle offset owner elided last i =
-    let m = numbers cycle offset bottom classes owner elided last in
-    let m₀ = numbers cycle₀ offset₀ bottom classes owner₀ elided₀ last₀ in
+Inv-loop p rows covers caps slots₀ heads₀ lengths₀ left₀ pointers₀ columns₀ responses₀ banks₀ trace log₀ bottom free classes cycle₀ offset₀ owner₀ elided₀ last₀ i₀ slots heads lengths left pointers columns responses banks log cycle offset owner elided last i =
+    let m = numbers cycle offset bottom free classes owner elided last in
+    let m₀ = numbers cycle₀ offset₀ bottom free classes owner₀ elided₀ last₀ in
     After p rows covers caps trace log₀ (stateOf m₀ slots₀ heads₀ lengths₀ left₀ pointers₀ columns₀ responses₀ banks₀) log m (stateOf m slots heads lengths left pointers columns responses banks) i
 
 abbrev μ-loop : tie.MeasureT-loop
-μ-loop p rows covers caps slots₀ heads₀ lengths₀ left₀ pointers₀ columns₀ responses₀ banks₀ trace log₀ bottom classes cycle₀ offset₀ owner₀ elided₀ last₀ i₀ slots heads lengths left pointers columns responses banks log cycle offset owner elided last i =
+μ-loop p rows covers caps slots₀ heads₀ lengths₀ left₀ pointers₀ columns₀ responses₀ banks₀ trace log₀ bottom free classes cycle₀ offset₀ owner₀ elided₀ last₀ i₀ slots heads lengths left pointers columns responses banks log cycle offset owner elided last i =
     length trace - i
 
 -- ---- places
@@ -79,7 +79,7 @@ abbrev first : tie.Start Inv-loop μ-loop → State
 first s = stateOf (s .args .start) (s .args .slots .now) (s .args .heads .now) (s .args .lengths .now) (s .args .left .now) (s .args .pointers .now) (s .args .columns .now) (s .args .responses .now) (s .args .banks .now)
 
 abbrev present : tie.At-loop Inv-loop μ-loop → State
-present c = stateOf (numbers (c .loop .cycle) (c .loop .offset) (start-loop c .args .start .bottom) (start-loop c .args .start .classes) (c .loop .owner) (c .loop .elided) (c .loop .last)) (c .loop .slots) (c .loop .heads) (c .loop .lengths) (c .loop .left) (c .loop .pointers) (c .loop .columns) (c .loop .responses) (c .loop .banks)
+present c = stateOf (numbers (c .loop .cycle) (c .loop .offset) (start-loop c .args .start .bottom) (start-loop c .args .start .free) (start-loop c .args .start .classes) (c .loop .owner) (c .loop .elided) (c .loop .last)) (c .loop .slots) (c .loop .heads) (c .loop .lengths) (c .loop .left) (c .loop .pointers) (c .loop .columns) (c .loop .responses) (c .loop .banks)
 
 loop-holds : tie.Need-loop-holds Inv-loop μ-loop
 unfolding stateAfter logOf
@@ -134,7 +134,7 @@ loop-again c =
     let next = did .1 in
     let r = call .call-at .result in
     let m = r .moment in
-    let left : ℕ → State = λ n. stateOf (numbers (m .cycle) (m .offset) (s .args .start .bottom) n (m .owner) (m .elided) (m .last)) (call .call-at .last .1 .1 .1 .1 .1 .1 .0) (call .call-at .last .1 .1 .1 .1 .1 .1 .1 .0) (call .call-at .last .1 .1 .1 .1 .1 .1 .1 .1 .0) (call .call-at .last .1 .1 .1 .1 .1 .1 .1 .1 .1 .0) (call .call-at .last .1 .1 .1 .1 .1 .1 .1 .1 .1 .1 .0) (call .call-at .last .1 .1 .1 .1 .1 .1 .1 .1 .1 .1 .1 .0) (call .call-at .last .1 .1 .1 .1 .1 .1 .1 .1 .1 .1 .1 .1 .0) (call .call-at .last .1 .1 .1 .1 .1 .1 .1 .1 .1 .1 .1 .1 .1 .0) in
+    let left : ℕ → State = λ n. stateOf (numbers (m .cycle) (m .offset) (s .args .start .bottom) (s .args .start .free) n (m .owner) (m .elided) (m .last)) (call .call-at .last .1 .1 .1 .1 .1 .1 .0) (call .call-at .last .1 .1 .1 .1 .1 .1 .1 .0) (call .call-at .last .1 .1 .1 .1 .1 .1 .1 .1 .0) (call .call-at .last .1 .1 .1 .1 .1 .1 .1 .1 .1 .0) (call .call-at .last .1 .1 .1 .1 .1 .1 .1 .1 .1 .1 .0) (call .call-at .last .1 .1 .1 .1 .1 .1 .1 .1 .1 .1 .1 .0) (call .call-at .last .1 .1 .1 .1 .1 .1 .1 .1 .1 .1 .1 .1 .0) (call .call-at .last .1 .1 .1 .1 .1 .1 .1 .1 .1 .1 .1 .1 .1 .0) in
     let state : left (s .args .start .classes) ≡ answerTo p (present at) word .state = ap left (sym (next .same-count)) ∙ ap (λ (a : Answer). a .state) (did .0) in
     let line = wrote .write .ensures ∙ ap (written (at .loop .log) (4 * i)) (did .0) in
     record {

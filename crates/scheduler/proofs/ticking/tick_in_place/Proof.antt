@@ -107,7 +107,7 @@ module _ (t n : ℕ) where
 turns-at-requires : tie.Need-turns-at-requires
 turns-at-requires c κs =
     let s = c .before .before .before .before in
-    (s .pre .0 .lent, s .pre .0 .in-step, s .pre .1, fit s .turns .pointers-fit .sixteen)
+    (s .pre .0 .lent, s .pre .0 .in-step, s .pre .1, fit s .turns .left-within .sixteen, fit s .turns .pointers-fit .sixteen)
 
 drive-requires : tie.Need-drive-requires
 drive-requires c κs = search needs
@@ -135,7 +135,7 @@ returns c =
           (ap (responded (flight-driven at)) (sent .1) ∙ ap (answered t) (flight-right at))
           (promised at .command ∙ ap (λ (x : Driven). commandNumber (x .wires)) (driven-right at))
           (sent .0 ∙ ap (λ (f : Flight). dueAt (f .responses) t) (flight-right at)),
-      record { in-step = refl; same-bottom = refl; same-count = refl },
+      record { in-step = refl; same-bottom = refl; same-free = refl; same-count = refl },
     )
 
 pub tick-in-place-spec : {M : Type 1} → statement M

@@ -1,6 +1,7 @@
--- `scheduler::turning::charge` meets its contract: a difference of naturals does not fall below 0.
+-- `scheduler::turning::charge` meets its contract: each branch is the side of the definition that its test picks, and a difference of naturals does not fall below 0.
 -- Assumes nothing.
 use borrow.Author.Needs.{needs}
+use Rattle.basics.proofs.Truth.{not-true, not-not}
 use Rattle.rules.specs.Traversal.{charge}
 use Rattle.scheduler.proofs.turning.charge.Statement.{statement}
 use Rattle.scheduler.proofs.turning.charge.Tie as tie
@@ -22,7 +23,10 @@ element-write-left c = search needs
 
 returns : tie.Need-returns
 unfolding charge
-returns c = rw (c .one-less .ensures)
+returns c = rw (not-true (c .before .before .before .args .taken) (c .before .before .if1 .taken), c .one-less .ensures)
+
+returns-2 : tie.Need-returns-2
+returns-2 c = rw (not-not (c .before .args .taken) (c .if1 .left))
 
 pub charge-spec : {M : Type 1} → statement M
 charge-spec =
@@ -33,4 +37,5 @@ charge-spec =
     one-less-requires
     mul-left
     element-write-left
-    returns)
+    returns
+    returns-2)

@@ -32,7 +32,7 @@ div-number c =
 start-turn-requires : tie.Need-start-turn-requires
 start-turn-requires c κs =
     let s = c .before .before .before .before .before .before .before in
-    (s .pre .0, omega (arith, div-le-self (s .args .m .cycle) (s .args .p .timing .turn), s .pre .2), s .pre .3)
+    (s .pre .0, omega (arith, div-le-self (s .args .m .cycle) (s .args .p .timing .turn), s .pre .2), s .pre .3, s .pre .4)
 
 returns-2 : tie.Need-returns-2
 unfolding turnsAt turnNumber

@@ -1,0 +1,114 @@
+-- W-202's promises: what a minimum guarantees. They are said of every list of calls from fresh, and of what its log shows.
+use mathlib.Core.Path.{_≡_}
+use mathlib.Core.Bool.{Bool, true, false, _&&_}
+use mathlib.Core.List.{List, [], _∷_, _++_}
+use Prim.Native.Nat.{ℕ, _+_, _*_, _-_, _%_, _≤_, _<_}
+use lib.Dec.{ltb, eqb}
+use lib.ListN.{getD}
+use Rattle.basics.specs.Below.{count}
+use Rattle.policy.specs.Policy.{isClass, flows, least, cap, minimum, homeTurn, homeClass}
+use Rattle.policy.specs.declared.Policy.{Policy}
+use Rattle.queues.specs.Waiting.{lengthOf, waitingAt}
+use Rattle.state.specs.Fresh.{freshState}
+use Rattle.state.specs.declared.State.{State}
+use Rattle.rules.specs.Traversal.{firstClass}
+use Rattle.rules.specs.Step.{leftAtStart, turnWord}
+use Rattle.rules.specs.Calls.{lineOf, answerTo, stateAfter, logOf}
+
+-- ---- the ticks of a list
+
+-- how many ticks a list makes: they have the numbers below this. (A tick that is refused with 12 is not made.)
+abbrev pub ticksIn : Policy → List ℕ → ℕ
+ticksIn p ws = stateAfter p (freshState p) ws .cycle
+
+-- the state in which calls, from a state on, make tick number t; where they do not, the state after them
+unfoldable pub stateAtTick : Policy → State → List ℕ → ℕ → State
+stateAtTick p s [] t = s
+stateAtTick p s (w ∷ ws) t = elim (eqb w 0 && eqb (s .cycle) t) [ true ↦ s | false ↦ stateAtTick p (answerTo p s w .state) ws t ]
+
+-- the state in which a list from fresh makes tick number t. The tick's four numbers in the log are those of the answer to a 0 there.
+abbrev pub atTick : Policy → List ℕ → ℕ → State
+atTick p ws t = stateAtTick p (freshState p) ws t
+
+-- what that comes to: the list is what stands before the tick, the tick, and the rest, and so is its log
+pub record TickMade (p : Policy) (ws : List ℕ) (t : ℕ) : Type 0 where
+  pub before : List ℕ
+  pub after : List ℕ
+  pub parts : ws ≡ before ++ (0 ∷ after)
+  pub reached : stateAfter p (freshState p) before ≡ atTick p ws t
+  pub number : atTick p ws t .cycle ≡ t
+  pub logged : logOf p (freshState p) ws
+      ≡ logOf p (freshState p) before ++ (lineOf (answerTo p (atTick p ws t) 0) ++ logOf p (answerTo p (atTick p ws t) 0 .state) after)
+
+-- ---- the turns of a list
+
+-- the tick that starts turn number k
+abbrev pub firstTick : Policy → ℕ → ℕ
+firstTick p k = k * p .timing .turn
+
+-- turn number k starts; it is "ticked to its end"
+abbrev pub Started : Policy → List ℕ → ℕ → Type 0
+Started p ws k = firstTick p k < ticksIn p ws
+
+abbrev pub Ended : Policy → List ℕ → ℕ → Type 0
+Ended p ws k = firstTick p (k + 1) ≤ ticksIn p ws
+
+-- class c "has a request waiting" at the start of turn number k; the oldest of them, "the head at that start"
+abbrev pub Waits : Policy → List ℕ → ℕ → ℕ → Type 0
+Waits p ws k c = (lengthOf (atTick p ws (firstTick p k) .queues) c ≡ 0) → ⊥
+
+abbrev pub headAt : Policy → List ℕ → ℕ → ℕ → ℕ
+headAt p ws k c = waitingAt (atTick p ws (firstTick p k) .queues) c 0
+
+-- class c owns turn number k: the turn starts, and its turn number in the log says so ("The owner is the turn number's low 8 bits less 1")
+unfoldable pub owns : Policy → List ℕ → ℕ → ℕ → Bool
+owns p ws c k = ltb (firstTick p k) (ticksIn p ws) && eqb (answerTo p (atTick p ws (firstTick p k)) 0 .turn % 256) (c + 1)
+
+-- how many turns of epoch number e class c owns
+unfoldable pub ownedIn : Policy → List ℕ → ℕ → ℕ → ℕ
+ownedIn p ws e c = count (p .epoch) (λ j. owns p ws c (e * p .epoch + j))
+
+-- request w is activated in turn number k: one of its ticks has the request's word as its command in the log
+pub record ActivatedIn (p : Policy) (ws : List ℕ) (k w : ℕ) : Type 0 where
+  pub tick : ℕ
+  pub not-before : firstTick p k ≤ tick
+  pub not-after : tick < firstTick p (k + 1)
+  pub command : answerTo p (atTick p ws tick) 0 .command ≡ w
+
+-- ---- what is promised
+
+-- "a turn of its own starts": class c owns turn number `turn`, one of so many from turn number k on, and its head at the start of k has not gone before
+pub record OwnTurn (p : Policy) (ws : List ℕ) (k many c : ℕ) : Type 0 where
+  pub turn : ℕ
+  pub not-before : k ≤ turn
+  pub within : turn < k + many
+  pub own : owns p ws c turn ≡ true
+  pub waits : Waits p ws turn c
+  pub same-head : headAt p ws turn c ≡ headAt p ws k c
+
+-- of every policy in range, every list of calls from fresh and every class
+pub record Guarantees (p : Policy) : Type 0 where
+  -- what is said of ticks is said of the list and its log
+  pub ticks : (ws : List ℕ) (t : ℕ) → t < ticksIn p ws → TickMade p ws t
+  -- "A class with a request waiting at all its home turns owns at least its minimum in that epoch": the epoch's last turn, and so each of its turns, has started
+  pub at-least-its-minimum : (ws : List ℕ) (e c : ℕ) → isClass p c ≡ true → Started p ws (e * p .epoch + (p .epoch - 1))
+      → ((j : ℕ) → j < p .epoch → homeTurn p (e * p .epoch + j) ≡ true → homeClass p (e * p .epoch + j) ≡ c → Waits p ws (e * p .epoch + j) c)
+      → minimum p c ≤ ownedIn p ws e c
+  -- "every class owns at most its cap"
+  pub at-most-its-cap : (ws : List ℕ) (e c : ℕ) → isClass p c ≡ true → ownedIn p ws e c ≤ cap p c
+  -- "If a class with a minimum of 1 or more has a request waiting at a turn's start, a turn of its own starts within E turns, that one counted, if so many start, or the request has gone before." A request goes in
+  -- a turn of its class alone, so the first half always holds, with the same head.
+  pub within-an-epoch : (ws : List ℕ) (k c : ℕ) → isClass p c ≡ true → 1 ≤ minimum p c → Waits p ws k c → Started p ws (k + (p .epoch - 1))
+      → OwnTurn p ws k (p .epoch) c
+  -- "With a turn length of at least twice the dead time, the head at that start is activated in that turn, if it is ticked to its end."
+  pub head-goes : (ws : List ℕ) (k c : ℕ) → 2 * p .timing .dead ≤ p .timing .turn → owns p ws c k ≡ true → Waits p ws k c → Ended p ws k
+      → ActivatedIn p ws k (headAt p ws k c)
+
+-- What the plan of home turns comes to for the turns left. A class can be tried only in turns whose first class may flow to it, and these are no more than its cap: so, from fresh, turns left turn no class away.
+pub record CapsSuffice (p : Policy) : Type 0 where
+  -- as a turn starts, each class that its traversal can come to has a turn left
+  pub some-left : (ws : List ℕ) (k c : ℕ) → Started p ws k → flows p (firstClass p k) c ≡ true
+      → 1 ≤ getD (leftAtStart p k (atTick p ws (firstTick p k) .turns .left)) c 0
+  -- so before a turn that is no home turn the trial walk gets no further than the least class: the dead time is dropped if that is the owner, and else kept
+  pub least-drops : (ws : List ℕ) (k c : ℕ) → owns p ws c k ≡ true → homeTurn p (k + 1) ≡ false
+      → answerTo p (atTick p ws (firstTick p k)) 0 .turn ≡ turnWord c (eqb c (least p))

@@ -1,0 +1,375 @@
+//! What W-202 promises of every accepted policy and every list of calls from fresh: a search for
+//! lists in which a promise is broken. The lists are those of the search for leaks ([`crate::pairs`]),
+//! and what happens in them is taken from the ticks' records and the states between them.
+
+use std::collections::BTreeMap;
+
+use crate::pairs::pair;
+use crate::planted::Planted;
+use crate::policy::Policy;
+use crate::state::{Request, State};
+use crate::tick::{offer_in_range, offset, tick_in_range, turn_number, Wires};
+use crate::trace::Word;
+
+/// What is held against each list.
+#[derive(Clone, Copy, Debug, PartialEq, Eq, PartialOrd, Ord)]
+pub enum Promise {
+    /// "A class with a request waiting at all its home turns owns at least its minimum in that epoch";
+    /// the epoch's turns have all started.
+    Minimum,
+    /// "every class owns at most its cap"
+    Cap,
+    /// "If a class with a minimum of 1 or more has a request waiting at a turn's start, a turn of its own
+    /// starts within E turns, that one counted, if so many start, or the request has gone before."
+    Wait,
+    /// "With a turn length of at least twice the dead time, the head at that start is activated in that
+    /// turn, if it is ticked to its end."
+    Activate,
+    /// The same of shorter turns, where it is not promised: there the search must find it broken.
+    ActivateInShortTurns,
+    /// W-202 does not say this, but it follows from the plan: in a list of calls from fresh, a class that
+    /// a turn's walk can come to has turns left. Of E turns it can come to all but the home turns of
+    /// classes that may not flow to it, and to no more than its cap is.
+    TurnsLeft,
+}
+
+/// A broken promise.
+#[derive(Clone, Debug, PartialEq, Eq)]
+pub struct Broken {
+    /// The seed of the pair, and which of its lists it is.
+    pub seed: u64,
+    pub side: usize,
+    pub what: String,
+}
+
+/// How often the promises came to bear, and in what way.
+const COUNTED: [&str; 21] = [
+    "minimums owed",
+    "minimums owed to classes that are not least",
+    "minimums owed to a least class",
+    "minimums owed where S is E",
+    "minimums owed of 2 or more",
+    "minimums owed to classes with a lower one waiting at each turn's start",
+    "minimums owned and no turn more",
+    "caps of whole epochs",
+    "caps of epochs that have begun",
+    "caps below E that are owned whole",
+    "caps below E that classes other than the least own whole",
+    "waits",
+    "waits of classes that are not least",
+    "waits where S is E",
+    "waits that the last of E turns ends",
+    "waits over an epoch's end",
+    "heads of owners",
+    "heads of owners that are not least",
+    "heads of owners in their home turns",
+    "heads where turns are just twice the dead time",
+    "heads that go as late as one less than the dead time",
+];
+
+/// What a search found and how often the promises came to bear.
+#[derive(Clone, Debug)]
+pub struct Search {
+    /// The first list in which each was broken.
+    pub broken: BTreeMap<Promise, Broken>,
+    counts: BTreeMap<&'static str, u64>,
+}
+
+impl Search {
+    /// What never came to bear.
+    pub fn missed(&self) -> Vec<&'static str> {
+        let never = |name: &&str| self.counts[name] == 0;
+        COUNTED.into_iter().filter(never).collect()
+    }
+
+    /// Each count in a line.
+    pub fn report(&self) -> String {
+        let line = |name| format!("{name}: {}\n", self.counts[name]);
+        COUNTED.into_iter().map(line).collect()
+    }
+
+    /// Counts what is in the list of names above, and nothing else.
+    fn met_if(&mut self, condition: bool, name: &'static str) {
+        match self.counts.get_mut(name) {
+            Some(count) => *count += u64::from(condition),
+            None => panic!("`{name}` is not counted"),
+        }
+    }
+}
+
+/// Searches the pairs of seeds 0, 1, 2 and so on.
+pub fn search(count: u64) -> Search {
+    search_planted(count, Planted::Nothing)
+}
+
+/// The same search with a wrong rule in place. For tests.
+pub fn search_planted(count: u64, planted: Planted) -> Search {
+    let mut search = Search {
+        broken: BTreeMap::new(),
+        counts: COUNTED.iter().map(|&name| (name, 0)).collect(),
+    };
+    for seed in 0..count {
+        let pair = pair(seed);
+        for (side, list) in pair.lists.iter().enumerate() {
+            let turns = perform(&pair.policy, pair.start.clone(), list, planted);
+            let mut check = Check {
+                policy: &pair.policy,
+                turns: &turns,
+                place: (seed, side),
+                search: &mut search,
+            };
+            check.minimums();
+            check.caps();
+            check.waits();
+            check.heads();
+            check.turns_left();
+        }
+    }
+    search
+}
+
+/// A turn that started.
+struct Turn {
+    owner: usize,
+    /// What each class had as it started.
+    classes: Vec<AtStart>,
+    /// The ticks that were made in it.
+    ticks: u32,
+    /// The first activate of its owner in it, with its offset.
+    first: Option<(Request, u32)>,
+}
+
+/// What a class had at a turn's start.
+struct AtStart {
+    head: Option<Request>,
+    left: u8,
+    /// How many of its requests had been activated.
+    gone: u64,
+}
+
+/// Performs a list and gives the turns that its ticks start.
+fn perform(policy: &Policy, mut state: State, list: &[u32], planted: Planted) -> Vec<Turn> {
+    let mut turns: Vec<Turn> = Vec::new();
+    let mut gone = vec![0; policy.class_count()];
+    for &number in list {
+        match Word::of(number) {
+            Word::Malformed => continue,
+            Word::Offer(request) => {
+                let _ = offer_in_range(policy, &mut state, request, planted);
+                continue;
+            }
+            Word::Tick => {}
+        }
+        let starts_epoch = turn_number(policy, state.cycle) % u32::from(policy.epoch) == 0;
+        let classes = (0..policy.class_count()).map(|class| AtStart {
+            head: state.classes[class].queue.front().copied(),
+            left: match starts_epoch {
+                true => policy.caps[class],
+                false => state.classes[class].left,
+            },
+            gone: gone[class],
+        });
+        let (classes, offset) = (classes.collect(), offset(policy, state.cycle));
+        // A list that goes on after the last tick shows nothing more.
+        let Ok(record) = tick_in_range(policy, &mut state, planted) else {
+            break;
+        };
+        if let Some(turn) = record.turn {
+            turns.push(Turn {
+                owner: turn.owner,
+                classes,
+                ticks: 0,
+                first: None,
+            });
+        }
+        let Some(turn) = turns.last_mut() else {
+            continue;
+        };
+        turn.ticks += 1;
+        if let Wires::Activate(request) = record.wires {
+            let class = usize::from(request.class);
+            gone[class] += 1;
+            if class == turn.owner {
+                turn.first = turn.first.or(Some((request, offset)));
+            }
+        }
+    }
+    turns
+}
+
+/// The turns of one list, held against the promises.
+struct Check<'a> {
+    policy: &'a Policy,
+    turns: &'a [Turn],
+    place: (u64, usize),
+    search: &'a mut Search,
+}
+
+impl Check<'_> {
+    fn hold(&mut self, promise: Promise, holds: bool, what: impl Fn() -> String) {
+        let (seed, side) = self.place;
+        if !holds {
+            let broken = || Broken {
+                seed,
+                side,
+                what: what(),
+            };
+            self.search.broken.entry(promise).or_insert_with(broken);
+        }
+    }
+
+    /// The classes, each with its minimum.
+    fn minimum_of(&self) -> Vec<(usize, usize)> {
+        let minimums = self.policy.minimums.iter();
+        minimums.map(|&m| usize::from(m)).enumerate().collect()
+    }
+
+    fn epoch(&self) -> usize {
+        usize::from(self.policy.epoch)
+    }
+
+    fn home_turns_alone(&self) -> bool {
+        self.policy.sum_of_minimums() == u32::from(self.policy.epoch)
+    }
+
+    fn minimums(&mut self) {
+        let (least, home_turns_alone) = (self.policy.least(), self.home_turns_alone());
+        for (number, epoch) in self.turns.chunks_exact(self.epoch()).enumerate() {
+            for (class, minimum) in self.minimum_of() {
+                let waits = |turn: &Turn| turn.classes[class].head.is_some();
+                let is_home = |place: usize| self.policy.home(place as u32) == Some(class);
+                let mut home_turns = (0..epoch.len()).filter(|&place| is_home(place));
+                if minimum == 0 || !home_turns.all(|place| waits(&epoch[place])) {
+                    continue;
+                }
+                let owned = epoch.iter().filter(|turn| turn.owner == class).count();
+                self.hold(Promise::Minimum, owned >= minimum, || {
+                    format!("class {class} owns {owned} of {minimum} turns of epoch {number}")
+                });
+                let lower_wait = (0..self.policy.class_count())
+                    .filter(|&lower| self.policy.strictly_below(lower, class))
+                    .any(|lower| {
+                        let mut turns = epoch.iter();
+                        turns.all(|turn| turn.classes[lower].head.is_some())
+                    });
+                let search = &mut *self.search;
+                search.met_if(true, "minimums owed");
+                search.met_if(
+                    class != least,
+                    "minimums owed to classes that are not least",
+                );
+                search.met_if(class == least, "minimums owed to a least class");
+                search.met_if(home_turns_alone, "minimums owed where S is E");
+                search.met_if(minimum > 1, "minimums owed of 2 or more");
+                search.met_if(
+                    lower_wait,
+                    "minimums owed to classes with a lower one waiting at each turn's start",
+                );
+                search.met_if(owned == minimum, "minimums owned and no turn more");
+            }
+        }
+    }
+
+    fn caps(&mut self) {
+        let least = self.policy.least();
+        for (number, epoch) in self.turns.chunks(self.epoch()).enumerate() {
+            let whole = epoch.len() == self.epoch();
+            self.search.met_if(whole, "caps of whole epochs");
+            self.search.met_if(!whole, "caps of epochs that have begun");
+            for (class, &cap) in self.policy.caps.iter().enumerate() {
+                let owned = epoch.iter().filter(|turn| turn.owner == class).count();
+                self.hold(Promise::Cap, owned <= usize::from(cap), || {
+                    format!(
+                        "class {class} owns {owned} turns of epoch {number}, and its cap is {cap}"
+                    )
+                });
+                let all = cap > 0 && cap < self.policy.epoch && owned == usize::from(cap);
+                self.search.met_if(all, "caps below E that are owned whole");
+                self.search.met_if(
+                    all && class != least,
+                    "caps below E that classes other than the least own whole",
+                );
+            }
+        }
+    }
+
+    fn waits(&mut self) {
+        let (least, home_turns_alone) = (self.policy.least(), self.home_turns_alone());
+        for (number, within) in self.turns.windows(self.epoch()).enumerate() {
+            let Some((last, before)) = within.split_last() else {
+                continue;
+            };
+            let classes = self.minimum_of().into_iter();
+            for (class, _) in classes.filter(|&(_, minimum)| minimum > 0) {
+                let at_start = |turn: &Turn| turn.classes[class].gone;
+                if within[0].classes[class].head.is_none() {
+                    continue;
+                }
+                let sooner = before.iter().any(|turn| turn.owner == class);
+                let gone = at_start(last) > at_start(&within[0]);
+                let owned = sooner || last.owner == class;
+                self.hold(Promise::Wait, owned || gone, || {
+                    format!("class {class} waits at turn {number} and owns none of E turns")
+                });
+                let search = &mut *self.search;
+                search.met_if(true, "waits");
+                search.met_if(class != least, "waits of classes that are not least");
+                search.met_if(home_turns_alone, "waits where S is E");
+                search.met_if(owned && !sooner, "waits that the last of E turns ends");
+                let over_end = number % within.len() > 0;
+                search.met_if(over_end, "waits over an epoch's end");
+            }
+        }
+    }
+
+    fn heads(&mut self) {
+        let timing = &self.policy.timing;
+        let turn_length = u32::from(timing.turn_length);
+        let dead_time = u32::from(timing.dead_time);
+        let promise = match turn_length >= 2 * dead_time {
+            true => Promise::Activate,
+            false => Promise::ActivateInShortTurns,
+        };
+        for (number, turn) in self.turns.iter().enumerate() {
+            let owner = turn.owner;
+            let Some(head) = turn.classes[owner].head else {
+                continue;
+            };
+            if turn.ticks < turn_length {
+                continue;
+            }
+            let first = turn.first;
+            let activated = first.is_some_and(|(request, _)| request == head);
+            self.hold(promise, activated, || {
+                format!("turn {number} of class {owner} leaves its head where it is")
+            });
+            if promise == Promise::Activate {
+                let home = self.policy.home(number as u32) == Some(owner);
+                let least = self.policy.least();
+                let late = first.is_some_and(|(_, offset)| offset + 1 == dead_time);
+                let search = &mut *self.search;
+                search.met_if(true, "heads of owners");
+                search.met_if(owner != least, "heads of owners that are not least");
+                search.met_if(home, "heads of owners in their home turns");
+                search.met_if(
+                    turn_length == 2 * dead_time,
+                    "heads where turns are just twice the dead time",
+                );
+                search.met_if(late, "heads that go as late as one less than the dead time");
+            }
+        }
+    }
+
+    fn turns_left(&mut self) {
+        for (number, turn) in self.turns.iter().enumerate() {
+            let home = self.policy.home(number as u32);
+            let first = home.unwrap_or(self.policy.least());
+            for (class, at_start) in turn.classes.iter().enumerate() {
+                let tried = self.policy.flows(first, class);
+                self.hold(Promise::TurnsLeft, !tried || at_start.left > 0, || {
+                    format!("turn {number} may come to class {class}, which has no turns left")
+                });
+            }
+        }
+    }
+}

@@ -1,0 +1,91 @@
+//! W-202's promises hold of the model as it is, and the search for lists that break one finds every
+//! rule that does.
+
+use std::sync::OnceLock;
+
+use vigambul_model::planted::Planted;
+use vigambul_model::promises::{search, search_planted, Promise, Search};
+
+/// The pairs whose lists are searched.
+const PAIRS: u64 = 20_000;
+/// A broken promise must show in so many.
+const PAIRS_ENOUGH: u64 = PAIRS / 10;
+
+/// The search of the model as it is, made once for all tests that ask.
+fn ordinary_search() -> &'static Search {
+    static SEARCH: OnceLock<Search> = OnceLock::new();
+    SEARCH.get_or_init(|| search(PAIRS))
+}
+
+/// What a wrong rule breaks.
+fn broken_by(planted: Planted) -> Vec<Promise> {
+    let search = search_planted(PAIRS_ENOUGH, planted);
+    println!("{planted:?}: {:#?}", search.broken);
+    let of_rules = |promise: &Promise| *promise != Promise::ActivateInShortTurns;
+    search.broken.into_keys().filter(of_rules).collect()
+}
+
+#[test]
+fn the_model_as_it_is_keeps_every_promise() {
+    for promise in [
+        Promise::Minimum,
+        Promise::Cap,
+        Promise::Wait,
+        Promise::Activate,
+        Promise::TurnsLeft,
+    ] {
+        assert_eq!(ordinary_search().broken.get(&promise), None, "{promise:?}");
+    }
+}
+
+#[test]
+fn every_promise_comes_to_bear() {
+    println!("{}", ordinary_search().report());
+    assert_eq!(ordinary_search().missed(), [""; 0]);
+}
+
+#[test]
+fn finds_a_plan_that_gives_a_class_one_home_turn_too_few() {
+    let broken = broken_by(Planted::PlanOneShort);
+    assert!(broken.contains(&Promise::Minimum), "{broken:?}");
+    assert!(broken.contains(&Promise::Wait), "{broken:?}");
+}
+
+#[test]
+fn finds_home_turns_that_start_at_the_least_class() {
+    let broken = broken_by(Planted::HomeTurnsStartAtLeast);
+    assert!(broken.contains(&Promise::Minimum), "{broken:?}");
+    assert!(broken.contains(&Promise::Wait), "{broken:?}");
+    // Charges alone keep a class to its cap there, and they use its turns up.
+    assert!(!broken.contains(&Promise::Cap), "{broken:?}");
+    assert!(broken.contains(&Promise::TurnsLeft), "{broken:?}");
+}
+
+#[test]
+fn finds_home_turns_that_nobody_is_charged_for() {
+    let broken = broken_by(Planted::HomeTurnsForAnyone);
+    assert!(broken.contains(&Promise::Cap), "{broken:?}");
+}
+
+#[test]
+fn finds_a_dead_time_that_begins_one_cycle_early() {
+    let broken = broken_by(Planted::DeadTimeEarly);
+    assert_eq!(broken, [Promise::Activate]);
+}
+
+/// Without its premise the last promise does not hold: the search must see that.
+#[test]
+fn finds_turns_too_short_to_activate_the_head() {
+    let broken = &ordinary_search().broken;
+    println!("{broken:?}");
+    assert!(broken.contains_key(&Promise::ActivateInShortTurns));
+}
+
+/// Neither of these two is told by any list of calls from fresh: where a walk comes to a class, the
+/// class has turns left by the plan alone, charged or not. `home_turns.rs` asks both rules of states
+/// that are handed in.
+#[test]
+fn turns_left_decide_nothing_in_a_list_from_fresh() {
+    assert_eq!(broken_by(Planted::HomeNeedsTurnsLeft), []);
+    assert_eq!(broken_by(Planted::AscentNotCharged), []);
+}

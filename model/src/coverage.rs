@@ -499,7 +499,7 @@ impl Coverage {
 
     /// Counts a turn before one that starts at the least class.
     fn add_trial(&mut self, policy: &Policy, state: &State, turn: u32) {
-        let trial = |by| lookahead(policy, state, by, Planted::Nothing).end;
+        let trial = |by| lookahead(policy, state, by, Planted::Nothing);
         let outcome = trial(turns_left_before_next(policy, turn));
         let least = state.owner == policy.least();
         match outcome {

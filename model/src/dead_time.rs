@@ -6,15 +6,7 @@ use crate::state::State;
 use crate::tick::set_to_caps;
 use crate::walk::{home, moved_pointer, named_cover, walk};
 
-/// The lookahead (document 01: trial walk).
-#[derive(Clone, Debug, PartialEq, Eq)]
-pub(crate) struct Trial {
-    pub(crate) end: Lookahead,
-    /// The classes that it passes on from, in its order.
-    pub(crate) passed_on: Vec<usize>,
-}
-
-/// How the lookahead ends.
+/// How the lookahead (document 01: trial walk) ends.
 #[derive(Clone, Copy, Debug, PartialEq, Eq)]
 pub(crate) enum Lookahead {
     /// The owner is reached: the dead time is dropped.
@@ -60,7 +52,7 @@ pub(crate) fn is_elided(policy: &Policy, state: &State, turn: u32, planted: Plan
         Planted::EpochEndForgottenAboveFive if policy.epoch > 5 => TurnsLeft::OfThisEpoch,
         _ => turns_left_before_next(policy, turn),
     };
-    lookahead(policy, state, by, planted).end == Lookahead::ReachesOwner
+    lookahead(policy, state, by, planted) == Lookahead::ReachesOwner
 }
 
 /// W-202: "before a home turn the dead time is dropped if and only if the owner may
@@ -102,40 +94,37 @@ pub(crate) fn turns_left_before_next(policy: &Policy, turn: u32) -> TurnsLeft {
 /// owner, so from each it goes to the child that the pointer names once it is
 /// moved. No class is met twice, so one move of each pointer is all there is to
 /// remember of "the marks as they would move".
-pub(crate) fn lookahead(policy: &Policy, state: &State, by: TurnsLeft, planted: Planted) -> Trial {
+pub(crate) fn lookahead(
+    policy: &Policy,
+    state: &State,
+    by: TurnsLeft,
+    planted: Planted,
+) -> Lookahead {
     let mut class = policy.least();
-    let mut passed_on = Vec::new();
     while class != state.owner {
         if !policy.flows(class, state.owner) {
-            let end = Lookahead::MeetsClassThatMayNotFlow;
-            return Trial { end, passed_on };
+            return Lookahead::MeetsClassThatMayNotFlow;
         }
         let left = match by {
             TurnsLeft::OfThisEpoch => state.classes[class].left,
             TurnsLeft::AtTheCaps => policy.caps[class],
         };
         if left > 0 {
-            let end = Lookahead::MeetsClassWithTurnsLeft;
-            return Trial { end, passed_on };
+            return Lookahead::MeetsClassWithTurnsLeft;
         }
         let pointer = match planted {
             // Not a rule: a leak that tests plant.
             Planted::TrialByUnmovedMarks => state.classes[class].pointer,
             _ => moved_pointer(policy, state, class),
         };
-        passed_on.push(class);
         class = match named_cover(policy, class, pointer) {
             Some(cover) => cover,
             // Not met by the rules: the owner lies above this class, so it has a
             // cover, and a moved pointer names one. An unmoved one may be 0.
-            None => {
-                let end = Lookahead::MeetsClassThatMayNotFlow;
-                return Trial { end, passed_on };
-            }
+            None => return Lookahead::MeetsClassThatMayNotFlow,
         };
     }
-    let end = Lookahead::ReachesOwner;
-    Trial { end, passed_on }
+    Lookahead::ReachesOwner
 }
 
 /// "The owner may activate at offsets below turn length less dead time; if the

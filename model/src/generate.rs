@@ -634,10 +634,10 @@ fn flipped_bit(random: &mut Random) -> Vec<u8> {
 // ---------------------------------------------------------------------------
 // Traces.
 
-/// A trace for a policy: mostly some hundreds of numbers, at times thousands, and
-/// at times as many as it takes to pass an epoch's end and for the least class's mark
-/// to go back to 1 if it moves in every turn but the home turns, where that is not too
-/// long.
+/// A trace for a policy: mostly of some hundreds of numbers, and at times of thousands.
+/// At times it passes an epoch's end and has sixteen turns that start at the least class,
+/// if the policy has such turns and that does not take too many cycles: if the class
+/// passes all of them on, its mark has gone back to 1, however many children it has.
 fn trace_numbers(random: &mut Random, policy: &Policy) -> Vec<u32> {
     let epoch = usize::from(policy.epoch);
     let epochs = match epoch - policy.sum_of_minimums() as usize {
@@ -645,8 +645,9 @@ fn trace_numbers(random: &mut Random, policy: &Policy) -> Vec<u32> {
         others => MOST_CLASSES.div_ceil(others),
     };
     let wait = epochs * epoch * usize::from(policy.timing.turn_length);
-    // It goes back from fifteen children at the latest, in few policies, and later by
-    // the turns that the class takes.
+    // With fifteen children no fewer than sixteen turns passed on will do. Few policies
+    // have so many, so more of their traces wait for it; and they wait for twice as many
+    // turns, since the class takes some of them itself.
     let fifteen = policy.covers_of(policy.least()).len() == MOST_CLASSES - 1;
     let (patience, wait) = if fifteen { (75, 2 * wait) } else { (25, wait) };
     let length = match random.below(100) {

@@ -19,9 +19,10 @@
 //!
 //! [`generate`] makes policies and traces from a seed, [`coverage`] counts
 //! what they exercise, [`random`] is the source of chance of both, and
-//! [`planted`] holds the wrong rules that the searches for leaks and for broken
-//! promises must find; [`altered`] holds the faults by which the comparison of the
-//! search for leaks is tested, and [`met`] counts what it meets.
+//! [`planted`] holds wrong rules, of which the searches for leaks and for broken
+//! promises must find those that leak or break one; [`altered`] holds the faults by
+//! which the comparison of the search for leaks is tested, and [`met`] counts what it
+//! meets.
 //!
 //! The text in quotation marks above a rule is document 01's own, or that of
 //! document 02's request which is named before it.

@@ -104,7 +104,7 @@ pub(crate) fn pair_from_used_up(seed: u64) -> Pair {
     pair_from(seed, used_up)
 }
 
-/// A state at a turn's start, with any marks and any turns left, which are mostly 0.
+/// A state at a turn's start, with any marks and any turns left, which are often 0.
 fn used_up(policy: &Policy, random: &mut Random) -> State {
     let (mut state, _) = state::fresh(policy);
     let turn = random.below(usize::from(policy.epoch));
@@ -159,7 +159,7 @@ fn searched_file(random: &mut Random, most_ticks: usize) -> Vec<u8> {
     let rows = sound_rows(random, n);
     let timing = searched_timing(random, most_ticks);
     let epoch = searched_epoch(random, most_ticks / usize::from(timing[0]));
-    // A class is passed over where its turns are used up, so caps are mostly low.
+    // Mostly many home turns, and often no others.
     let sum = match random.below(8) {
         0 => 0,
         1 | 2 => epoch - 1,

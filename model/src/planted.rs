@@ -1,6 +1,6 @@
-//! Wrong rules, each of which leaks or breaks a promise. They exist so that tests
-//! can show that the searches for those find them; nothing but those tests asks for
-//! one.
+//! Wrong rules. Most of them leak or break a promise in a list of calls from a fresh
+//! state; they exist so that tests can show that the searches for those find them. Of
+//! each other one it is said here where it shows. Nothing but tests asks for one.
 
 /// Which wrong rule is in place.
 #[derive(Clone, Copy, Debug, Default, PartialEq, Eq)]
@@ -67,9 +67,11 @@ pub enum Planted {
     HomeTurnsStartAtLeast,
     /// The same, and whoever takes a home turn is not charged.
     HomeTurnsForAnyone,
-    /// A home class takes its turn only if it has turns left.
+    /// A home class takes its turn only if it has turns left. In a list of calls from a
+    /// fresh state it always has some: this shows only from states that are handed in.
     HomeNeedsTurnsLeft,
-    /// An owner that the walk ascends to is not charged.
+    /// An owner that the walk ascends to is not charged. After a list of calls from a
+    /// fresh state this shows in its turns left, and never in the log.
     AscentNotCharged,
     /// Where the dead time is kept, it begins one cycle early.
     DeadTimeEarly,

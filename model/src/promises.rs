@@ -9,7 +9,7 @@ use crate::planted::Planted;
 use crate::policy::Policy;
 use crate::state::{Request, State};
 use crate::tick::{offer_in_range, offset, tick_in_range, turn_number, Wires};
-use crate::trace::Word;
+use crate::trace::{run_line, Word};
 
 /// What is held against each list.
 #[derive(Clone, Copy, Debug, PartialEq, Eq, PartialOrd, Ord)]
@@ -43,7 +43,7 @@ pub struct Broken {
 }
 
 /// How often the promises came to bear, and in what way.
-const COUNTED: [&str; 21] = [
+const COUNTED: [&str; 24] = [
     "minimums owed",
     "minimums owed to classes that are not least",
     "minimums owed to a least class",
@@ -65,6 +65,9 @@ const COUNTED: [&str; 21] = [
     "heads of owners in their home turns",
     "heads where turns are just twice the dead time",
     "heads that go as late as one less than the dead time",
+    "one turn left to classes that a walk can come to",
+    "one turn left to such classes that are not least",
+    "one turn left to such classes, of a cap above 1 and below E",
 ];
 
 /// What a search found and how often the promises came to bear.
@@ -160,21 +163,14 @@ fn perform(policy: &Policy, mut state: State, list: &[u32], planted: Planted) ->
             }
             Word::Tick => {}
         }
-        let starts_epoch = turn_number(policy, state.cycle) % u32::from(policy.epoch) == 0;
-        let classes = (0..policy.class_count()).map(|class| AtStart {
-            head: state.classes[class].queue.front().copied(),
-            left: match starts_epoch {
-                true => policy.caps[class],
-                false => state.classes[class].left,
-            },
-            gone: gone[class],
-        });
-        let (classes, offset) = (classes.collect(), offset(policy, state.cycle));
+        let offset = offset(policy, state.cycle);
+        // The tick that starts a turn changes what there is at its start.
+        let classes = (offset == 0).then(|| at_start(policy, &state, &gone));
         // A list that goes on after the last tick shows nothing more.
         let Ok(record) = tick_in_range(policy, &mut state, planted) else {
             break;
         };
-        if let Some(turn) = record.turn {
+        if let Some((turn, classes)) = record.turn.zip(classes) {
             turns.push(Turn {
                 owner: turn.owner,
                 classes,
@@ -195,6 +191,58 @@ fn perform(policy: &Policy, mut state: State, list: &[u32], planted: Planted) ->
         }
     }
     turns
+}
+
+/// What each class has as the next tick starts a turn, given how many of its requests are gone.
+fn at_start(policy: &Policy, state: &State, gone: &[u64]) -> Vec<AtStart> {
+    let starts_epoch = turn_number(policy, state.cycle) % u32::from(policy.epoch) == 0;
+    let of_class = |class: usize| AtStart {
+        head: state.classes[class].queue.front().copied(),
+        left: match starts_epoch {
+            true => policy.caps[class],
+            false => state.classes[class].left,
+        },
+        gone: gone[class],
+    };
+    (0..policy.class_count()).map(of_class).collect()
+}
+
+/// In how many lists a wrong rule changes something.
+#[derive(Clone, Copy, Debug, Default, PartialEq, Eq)]
+pub struct Changed {
+    /// The log.
+    pub logs: u64,
+    /// The turns left in the state after the list.
+    pub turns_left: u64,
+    /// Anything else in that state.
+    pub other_parts: u64,
+}
+
+/// What a wrong rule changes in the lists of so many pairs. For tests.
+pub fn changed_by(count: u64, planted: Planted) -> Changed {
+    let mut changed = Changed::default();
+    for pair in (0..count).map(pair) {
+        for list in &pair.lists {
+            let mut right = pair.start.clone();
+            let mut wrong = pair.start.clone();
+            let mut log_differs = false;
+            for &number in list {
+                let line = run_line(&pair.policy, &mut right, number, Planted::Nothing);
+                log_differs |= line != run_line(&pair.policy, &mut wrong, number, planted);
+            }
+            let left = |state: &mut State| -> Vec<u8> {
+                let classes = state.classes.iter_mut();
+                classes
+                    .map(|class| std::mem::take(&mut class.left))
+                    .collect()
+            };
+            changed.logs += u64::from(log_differs);
+            changed.turns_left += u64::from(left(&mut right) != left(&mut wrong));
+            // The turns left are taken out of both.
+            changed.other_parts += u64::from(right != wrong);
+        }
+    }
+    changed
 }
 
 /// The turns of one list, held against the promises.
@@ -361,14 +409,30 @@ impl Check<'_> {
     }
 
     fn turns_left(&mut self) {
+        let least = self.policy.least();
         for (number, turn) in self.turns.iter().enumerate() {
-            let home = self.policy.home(number as u32);
-            let first = home.unwrap_or(self.policy.least());
+            let first = self.policy.home(number as u32).unwrap_or(least);
             for (class, at_start) in turn.classes.iter().enumerate() {
-                let tried = self.policy.flows(first, class);
-                self.hold(Promise::TurnsLeft, !tried || at_start.left > 0, || {
+                if !self.policy.flows(first, class) {
+                    continue;
+                }
+                self.hold(Promise::TurnsLeft, at_start.left > 0, || {
                     format!("turn {number} may come to class {class}, which has no turns left")
                 });
+                let one = at_start.left == 1;
+                let cap = self.policy.caps[class];
+                let search = &mut *self.search;
+                search.met_if(one, "one turn left to classes that a walk can come to");
+                search.met_if(
+                    one && class != least,
+                    "one turn left to such classes that are not least",
+                );
+                // A cap of E lasts by itself: no turn is charged twice. One below E lasts by
+                // the plan alone, and here all of it but one turn is charged.
+                search.met_if(
+                    one && cap > 1 && cap < self.policy.epoch,
+                    "one turn left to such classes, of a cap above 1 and below E",
+                );
             }
         }
     }

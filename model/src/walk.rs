@@ -26,7 +26,7 @@ pub(crate) fn walk(policy: &Policy, state: &mut State, turn: u32, planted: Plant
         None => policy.least(),
     };
     let owner = try_class(policy, state, first, planted);
-    // Not rules: broken promises that tests plant.
+    // Not rules: wrong charges that tests plant.
     let free = match planted {
         Planted::HomeTurnsForAnyone => policy.home(turn).is_some(),
         Planted::AscentNotCharged => owner != first,
@@ -53,7 +53,7 @@ pub(crate) fn home(policy: &Policy, turn: u32, planted: Planted) -> Option<usize
 /// Whether the home class takes its turn: "if a request waits, turns left or not".
 fn takes_home_turn(state: &State, home: usize, planted: Planted) -> bool {
     match planted {
-        // Not a rule: a broken promise that tests plant.
+        // Not a rule: a wrong condition that tests plant.
         Planted::HomeNeedsTurnsLeft => waits_with_turns_left(state, home),
         _ => waits(state, home),
     }

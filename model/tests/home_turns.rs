@@ -145,7 +145,7 @@ fn turns_left_do_not_matter_to_a_home_class_and_matter_to_those_above() {
     let mut state = with_turns_left(&policy, &[(0, 0), (1, 0), (2, 0)]);
     assert_eq!(turn(&policy, &mut state, &[1]), (1, DROPPED));
     assert_eq!(left(&state), [0, 0, 0]);
-    // A fork above class 1: the turn is passed on past class 2, which waits without
+    // A chain of four: class 1 passes its home turn on, past class 2, which waits without
     // turns left, to class 3.
     let rows = [0b1111, 0b1110, 0b1100, 0b1000];
     let policy = common::policy(&rows, 2, &[0, 1, 0, 0], TIMING);
@@ -233,7 +233,8 @@ fn a_lower_owner_drops_before_the_home_turn_of_a_higher_class_alone() {
     assert_eq!(turn(&policy, &mut state, &[1]), (1, KEPT));
     // The least class may flow to all.
     assert_eq!(turn(&policy, &mut state, &[2]), (2, DROPPED));
-    // An idle middle class passes its home turn on; its own turn comes after.
+    // The highest class owns its home turn, idle as it is, and then that of the middle
+    // class, which passes it on.
     assert_eq!(turn(&policy, &mut state, &[]), (0, KEPT));
     assert_eq!(turn(&policy, &mut state, &[]), (0, KEPT));
 }

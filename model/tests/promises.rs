@@ -4,7 +4,7 @@
 use std::sync::OnceLock;
 
 use vigambul_model::planted::Planted;
-use vigambul_model::promises::{search, search_planted, Promise, Search};
+use vigambul_model::promises::{changed_by, search, search_planted, Changed, Promise, Search};
 
 /// The pairs whose lists are searched.
 const PAIRS: u64 = 20_000;
@@ -23,6 +23,13 @@ fn broken_by(planted: Planted) -> Vec<Promise> {
     println!("{planted:?}: {:#?}", search.broken);
     let of_rules = |promise: &Promise| *promise != Promise::ActivateInShortTurns;
     search.broken.into_keys().filter(of_rules).collect()
+}
+
+/// What a wrong rule changes in the lists that are searched.
+fn changed(planted: Planted) -> Changed {
+    let changed = changed_by(PAIRS, planted);
+    println!("{planted:?}, of {} lists: {changed:?}", 2 * PAIRS);
+    changed
 }
 
 #[test]
@@ -81,11 +88,31 @@ fn finds_turns_too_short_to_activate_the_head() {
     assert!(broken.contains_key(&Promise::ActivateInShortTurns));
 }
 
-/// Neither of these two is told by any list of calls from fresh: where a walk comes to a class, the
-/// class has turns left by the plan alone, charged or not. `home_turns.rs` asks both rules of states
-/// that are handed in.
+/// Neither of these two shows in the log of a list from fresh: where a walk comes to a class, the class
+/// has turns left by the plan alone, charged or not. So they break no promise. The states after the
+/// lists are the same too, but for the turns left that the second does not charge. `home_turns.rs` asks
+/// both rules of states that are handed in.
 #[test]
 fn turns_left_decide_nothing_in_a_list_from_fresh() {
+    assert_eq!(changed(Planted::HomeNeedsTurnsLeft), Changed::default());
+    let Changed {
+        logs,
+        turns_left,
+        other_parts,
+    } = changed(Planted::AscentNotCharged);
+    assert_eq!([logs, other_parts], [0, 0]);
+    assert!(turns_left > 0);
     assert_eq!(broken_by(Planted::HomeNeedsTurnsLeft), []);
     assert_eq!(broken_by(Planted::AscentNotCharged), []);
+}
+
+/// The comparison by which the test above says so tells what a log and a state show.
+#[test]
+fn a_changed_log_or_state_is_told() {
+    let Changed {
+        logs,
+        turns_left,
+        other_parts,
+    } = changed(Planted::PlanOneShort);
+    assert!(logs > 0 && turns_left > 0 && other_parts > 0);
 }

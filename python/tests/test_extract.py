@@ -24,6 +24,7 @@ class Extract(Case):
                 self.assertEqual("answer" in text, answer != 0)
                 self.assertEqual("turn of" in text, turn != 0)
                 self.assertEqual("turn of a class that may not be seen" in text, turn == 512)
+                self.assertFalse(turn == 512 and "home turn" in text)
                 self.assertEqual("refused" in text, status != 0)
             others = {"base": ("red", "blue"), "red": ("blue",), "blue": ("red",)}[name]
             self.assertFalse([text for text in words if any(other in text for other in others)])

@@ -113,6 +113,22 @@ class Promises(Case):
         self.assertGreater(waits, 500)
         self.assertGreater(last, 50)
 
+    def test_the_least_class_where_there_is_no_home_turn(self):
+        """It owns each turn that is no home turn and starts with a request of its own waiting, minimum or not; and the only class of a policy owns every turn."""
+        owned = passed = alone = 0
+        for _, policy, turns in self.runs():
+            for turn, owner in enumerate(turns.owners):
+                if policy.home(turn) is None and turns.waiting[turn][policy.least]:
+                    self.assertEqual(owner, policy.least)
+                    owned += policy.minimums[policy.least] == 0
+                passed += owner != policy.least
+            if policy.classes == 1:
+                self.assertEqual(set(turns.owners), {0})
+                alone += 1
+        self.assertGreater(owned, 100)
+        self.assertGreater(passed, 100)
+        self.assertGreater(alone, 0)
+
     def test_the_oldest_request_goes_out(self):
         """In a turn of its class that is ticked to its end, where turns are at least twice the dead time; where they are shorter it may not."""
         went = late = 0
@@ -149,13 +165,19 @@ class Words(Case):
 
     def test_of_the_wait(self):
         own, goes = wait_words(CHAIN)
-        self.assertEqual(own, "A class with a minimum that has a request waiting as a turn starts owns one of the 3 turns (12 cycles) from that one on, as far as the run goes")
-        self.assertEqual(goes, "A turn (4 cycles) is at least twice the dead time (2), so the oldest request of the class goes out in that turn of its own")
+        self.assertEqual(own, "A class with a minimum that has a request waiting as a turn starts owns one of the 3 turns (12 cycles) from that one on, if the run has so many turns")
+        end = "goes out in that turn of its own, if the run goes on to that turn's end"
+        self.assertEqual(goes, "A turn (4 cycles) is at least twice the dead time (2), so the oldest request of the class " + end)
         own, goes = wait_words(Policy([1], 1, [1], [3, 2, *TIMING[2:]]))
-        self.assertEqual(own, "A class with a minimum that has a request waiting as a turn starts owns that turn (3 cycles), as far as the run goes")
+        self.assertEqual(own, "A class with a minimum that has a request waiting as a turn starts owns that turn (3 cycles)")
         self.assertEqual(goes, "A turn (3 cycles) is less than twice the dead time (2), so it is not promised that the oldest request of the class goes out in that turn of its own")
 
     def test_without_minimums(self):
-        lines = minimum_words(Policy([3, 2], 4, [0, 0], TIMING), CHAIN_NAMES)
-        self.assertIn("there are no home turns, nobody is guaranteed a turn", lines[-1])
-        self.assertTrue(lines[-1].endswith("every cap is the epoch, 4."))
+        """All turns start at the least class, whatever its number."""
+        none = "Here no class has a minimum: there are no home turns; every turn starts at %s, which owns it if a request of its own waits, and no other class is guaranteed a turn; "
+        for rows, words in (
+            ([3, 2], none % "low" + "every cap is the epoch, 4."),
+            ([1, 3], none % "middle" + "every cap is the epoch, 4."),
+            ([1], "Here the one class has no minimum: there are no home turns; it owns every turn; its cap is the epoch, 4."),
+        ):
+            self.assertEqual(minimum_words(Policy(rows, 4, [0] * len(rows), TIMING), CHAIN_NAMES)[-1], words)

@@ -96,6 +96,12 @@ class Numbers(Case):
         self.assertEqual(self.figures("two-tenants").services[2].idle, 2)
         self.assertEqual(self.figures("two-tenants-busy").services[2].idle, 0)
 
+    def test_home_turns(self):
+        """In the cloud red owns turn 10 of its home turns 2, 3, 10 and 11, and turn 1, which is none; the shared class has none, and audit owns its two, one of them idle."""
+        services = self.figures("cloud").services
+        self.assertEqual([(service.homes, service.homes_owned) for service in services], [(0, 0), (4, 1), (4, 2), (2, 2), (2, 2)])
+        self.assertEqual([service.turns for service in services], [2, 2, 3, 4, 5])
+
     def test_ranks(self):
         """The nearest rank of 1 to 100, and of few."""
         service = self.figures("printed-log").services[0]
@@ -109,7 +115,7 @@ class Numbers(Case):
 
     def test_generated(self):
         """Every figure counted once more from the calls, in another way."""
-        seen = 0
+        seen = left = 0
         for ran in generated(build.library(), self.room, 25, 300):
             figures = figures_of(ran)
             calls = list(calls_of(ran.trace, ran.log))
@@ -125,6 +131,9 @@ class Numbers(Case):
                 self.assertEqual(service.taken, sum(call.status == 0 for call in mine))
                 self.assertEqual(service.full, sum(call.status == 11 for call in mine))
                 self.assertEqual(service.turns, owners.count(number))
+                homes = [turn for turn in range(len(owners)) if turn % ran.policy.epoch in ran.policy.home_turns(number)]
+                self.assertEqual((service.homes, service.homes_owned), (len(homes), sum(owners[turn] == number for turn in homes)))
+                left += service.homes - service.homes_owned
                 self.assertEqual(service.activates, sum(owner == number for _, owner in activates))
                 self.assertEqual(service.idle, sum(owner == number and (turn, number) not in activates for turn, owner in enumerate(owners)))
                 self.assertEqual(service.elided, sum(call.turn == number + 257 for call in ticks))
@@ -141,6 +150,7 @@ class Numbers(Case):
             else:
                 self.assertIsNone(figures.part)
         self.assertGreater(seen, 500)
+        self.assertGreater(left, 20)
 
     def test_together(self):
         """Over all: the CSV's rows of a class add up to the JSON's figures over all."""
@@ -152,7 +162,9 @@ class Numbers(Case):
         self.assertEqual(together["ticks"], 50 + 240 + 333)
         for value in together["classes"]:
             mine = [row for row in rows if row["name"] == value["name"]]
-            for key, number in (("answers", value["answers"]), ("wait_sum", value["waits"]["sum"]), ("turns_owned", value["turns"]["owned"]), ("activates", value["activates"])):
+            added = {"answers": value["answers"], "wait_sum": value["waits"]["sum"], "turns_owned": value["turns"]["owned"], "activates": value["activates"]}
+            added.update({"home_turns_" + key: number for key, number in value["home_turns"].items()})
+            for key, number in added.items():
                 self.assertEqual(sum(int(row[key]) for row in mine), number)
             self.assertEqual(max(int(row["wait_longest"]) for row in mine if row["wait_longest"]), value["waits"]["longest"])
             self.assertEqual(max(int(row["epoch_turns_most"]) for row in mine if row["epoch_turns_most"]), value["whole_epochs"]["most"])

@@ -37,6 +37,13 @@ class Run(Case):
                 self.assertEqual(out.count("\n"), (folder / "expected.txt").read_text().count("\n") - 1)
                 self.assertEqual(err, vig("run", folder)[2])
 
+    def test_home_turns_in_words(self):
+        """Turn 1 of the cloud is no home turn; red leaves its home turn 2 to keys, and owns its home turn 10."""
+        lines = self.succeeds("run", EXAMPLES / "cloud", "--words").splitlines()
+        starts = dict(line.split(": turn of ") for line in lines if ": turn of " in line)
+        for cycle, words in ((18, "red, dead time dropped"), (36, "keys, home turn of red, dead time kept"), (180, "red, its home turn, dead time dropped")):
+            self.assertEqual(starts["cycle %d" % cycle].partition(";")[0], words)
+
     def test_summary(self):
         said = "".join("%s\n%s" % (folder.name, vig("run", folder)[2]) for folder in TAKEN)
         self.stored("run/summaries.txt", said)

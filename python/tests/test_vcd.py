@@ -116,12 +116,17 @@ class VcdCase(Case):
 
     def values_of(self, call, policy, names, owners, elided):
         text = lambda name: int.from_bytes(name.encode(), "big")
-        offset = call.cycle % policy.turn
+        offset, place = call.cycle % policy.turn, call.cycle // policy.turn % policy.epoch
+        homes = [number for number in range(policy.classes) for _ in range(policy.minimums[number])]
+        homes = [None] * (policy.epoch - len(homes)) + homes
         values = {
             "turn": call.cycle // policy.turn,
             "epoch": call.cycle // policy.turn // policy.epoch,
             "owner.class": owners[-1],
             "owner.name": text(names[owners[-1]]),
+            "home.valid": int(homes[place] is not None),
+            "home.class": homes[place] or 0,
+            "home.name": text("-" if homes[place] is None else names[homes[place]]),
             "dead_time.dropped": int(elided),
             "dead_time.inside": int(not elided and offset >= policy.turn - policy.dead),
             "command.activate": int(call.command != 0 and not is_column(call.command)),
@@ -157,10 +162,19 @@ class Compared(VcdCase):
         its home turn."""
         values = {path.removeprefix("vigambul."): value for path, value in self.dump(EXAMPLES / "two-tenants-busy").cycles[7].items()}
         self.assertEqual((values["turn"], values["epoch"], text_of(values["owner.name"])), (1, 0, "red"))
+        self.assertEqual((values["home.valid"], values["home.class"], text_of(values["home.name"])), (1, 1, "red"))
         self.assertEqual((values["command.activate"], values["command.column"], text_of(values["command.name"]), values["command.bank"]), (0, 1, "red", 0))
         self.assertEqual((values["answer.valid"], text_of(values["answer.name"]), values["answer.tag"]), (1, "base", 3))
         self.assertEqual((values["queue.base"], values["queue.red"], values["queue.blue"]), (3, 7, 2))
         self.assertEqual((values["turns_left.base"], values["turns_left.red"], values["turns_left.blue"]), (0, 3, 3))
+
+    def test_home_turns_by_hand(self):
+        """The diamond's turns 7 and 8, from cycles 35 and 40 on, are the top's: the first is no home turn, the second that of the idle left."""
+        dump = self.dump(EXAMPLES / "diamond")
+        for cycle, valid, number, name in ((39, 0, 0, "-"), (40, 1, 1, "left"), (44, 1, 1, "left")):
+            values = dump.cycles[cycle]
+            self.assertEqual(text_of(values["vigambul.owner.name"]), "top")
+            self.assertEqual((values["vigambul.home.valid"], values["vigambul.home.class"], text_of(values["vigambul.home.name"])), (valid, number, name))
 
     def test_no_ticks(self):
         """Only the values before the first cycle: what waits is shown."""
@@ -182,7 +196,7 @@ class SaveFile(VcdCase):
         self.assertEqual(listed, [span(path) for path in dump.widths])
         titles = [line for line in lines if line.startswith("-")]
         self.assertEqual(titles[0::2], titles[1::2])
-        self.assertEqual(titles[0::2], ["-turn", "-owner", "-dead time", "-command", "-answer", "-queue", "-turns left"])
+        self.assertEqual(titles[0::2], ["-turn", "-owner", "-home turn", "-dead time", "-command", "-answer", "-queue", "-turns left"])
         self.assertIn('[dumpfile] "out.vcd"', lines)
 
 

@@ -10,13 +10,15 @@ from .history import Replay
 
 @dataclass
 class Service:
-    """A class's figures. `waits` has how many answered requests waited how long."""
+    """A class's figures. `waits` has how many answered requests waited how long; `homes` are its home turns, whoever owned them."""
 
     taken: int = 0
     full: int = 0
     waits: Counter = field(default_factory=Counter)
     turns: int = 0
     idle: int = 0
+    homes: int = 0
+    homes_owned: int = 0
     elided: int = 0
     activates: int = 0
 
@@ -56,6 +58,8 @@ class Service:
         self.waits += other.waits
         self.turns += other.turns
         self.idle += other.idle
+        self.homes += other.homes
+        self.homes_owned += other.homes_owned
         self.elided += other.elided
         self.activates += other.activates
 
@@ -137,6 +141,9 @@ class Counting(Replay):
         service = self.figures.services[self.owner]
         service.turns += 1
         service.elided += self.elided
+        if self.home is not None:
+            self.figures.services[self.home].homes += 1
+            service.homes_owned += self.owner == self.home
         if self.turn % self.policy.epoch == self.policy.epoch - 1:
             self.figures.whole.extend(self.owned)
             self.owned = None

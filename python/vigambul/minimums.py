@@ -6,7 +6,7 @@ from .words import counted
 RULE = """The last turns of an epoch, as many as the minimums add up to, are home turns: class by class in rising number, each class as often as its minimum. A home turn is
 its class's if a request of that class waits as the turn starts; that needs no turns left and costs none. If none waits, the turn goes on up from that class (one with
 nothing above it keeps the turn), and is not saved up. All other turns start at the least class. A minimum also lowers the cap of each class strictly below by as many
-turns: a cap is the epoch less the minimums of all classes strictly above, and no class owns more turns of an epoch than its cap. A minimum of 0 guarantees nothing."""
+turns: a cap is the epoch less the minimums of all classes strictly above, and no class owns more turns of an epoch than its cap. A minimum of 0 gives no home turn."""
 
 # When a request of a class must wait, by the number of its home turns.
 STARTS = {1: "as that turn starts", 2: "as both of these start"}
@@ -46,19 +46,26 @@ def class_words(policy, names, number):
 
 def wait_words(policy):
     """How long a class with a minimum waits for a turn of its own, and for its request to go out: the same for all of them."""
-    turns = "that turn (%s)" if policy.epoch == 1 else "one of the %d turns (%%s) from that one on" % policy.epoch
-    own = "A class with a minimum that has a request waiting as a turn starts owns %s, as far as the run goes" % (turns % counted(policy.epoch * policy.turn, "cycle"))
+    turns = "that turn (%s)" if policy.epoch == 1 else "one of the %d turns (%%s) from that one on, if the run has so many turns" % policy.epoch
+    own = "A class with a minimum that has a request waiting as a turn starts owns %s" % (turns % counted(policy.epoch * policy.turn, "cycle"))
     enough = policy.turn >= 2 * policy.dead
     length = "A turn (%s) is %s twice the dead time (%d)" % (counted(policy.turn, "cycle"), "at least" if enough else "less than", policy.dead)
     goes = "the oldest request of the class goes out in that turn of its own"
-    return [own, "%s, so %s%s" % (length, "" if enough else "it is not promised that ", goes)]
+    return [own, "%s, so %s" % (length, goes + ", if the run goes on to that turn's end" if enough else "it is not promised that " + goes)]
+
+
+def none_words(policy, names):
+    """What classes may count on where none has a minimum."""
+    if policy.classes == 1:
+        return "Here the one class has no minimum: there are no home turns; it owns every turn; its cap is the epoch, %d." % policy.epoch
+    owns = "every turn starts at %s, which owns it if a request of its own waits, and no other class is guaranteed a turn" % names.of(policy.least)
+    return "Here no class has a minimum: there are no home turns; %s; every cap is the epoch, %d." % (owns, policy.epoch)
 
 
 def minimum_words(policy, names):
-    """The rule, and what it comes to for each class with a minimum."""
+    """The rule, and what it comes to here."""
     lines = RULE.splitlines()
     if not given(policy):
-        none = "Here no class has a minimum: there are no home turns, nobody is guaranteed a turn (a class gets what those below it leave), and every cap is the epoch, %d."
-        return lines + [none % policy.epoch]
+        return lines + [none_words(policy, names)]
     promises = [class_words(policy, names, number) for number in given(policy)] + wait_words(policy)
     return lines + ["Here, in every run and whatever the other classes do:"] + ["- %s." % promise for promise in promises]

@@ -4,6 +4,7 @@ reader's answer and does not replace it: the number at the end is always the rea
 from dataclasses import dataclass, field
 
 from .formats import CLASSES, REFUSALS
+from .minimums import plan_words
 from .policies import BODIES_START, ENTRY_KINDS, TIMING, TIMING_KEYS, Names, Policy
 from .policy_ranges import LONGEST_EPOCH, TIMING_RANGES
 from .tables import aligned
@@ -326,11 +327,11 @@ def _cycle_words(layout):
 
 
 def answer_words(layout, status):
-    """The proved reader's answer, and what explains it, as lines."""
+    """The proved reader's answer, and what explains it, as lines; of a policy that is taken, its plan of home turns."""
     if status == 0:
         policy, names = layout.policy, layout.names
         caps = ", ".join("%s %d" % (names.of(i), policy.cap(i)) for i in range(policy.classes))
-        return ["The proved reader: taken (0). The least class is %s; caps: %s." % (names.of(policy.least), caps)]
+        return ["The proved reader: taken (0). The least class is %s; caps: %s." % (names.of(policy.least), caps), plan_words(policy, names)]
     lines = ["The proved reader: refused %d: %s." % (status, REFUSALS[status].when)]
     faults = [fault for fault in layout.faults if fault.number == status]
     reasons, mends = _told(faults), list(dict.fromkeys(fault.mend for fault in faults))[:TOLD]

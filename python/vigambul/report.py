@@ -9,8 +9,11 @@ from .tables import aligned, grouped
 from .words import counted
 
 # The table's columns, and the groups that they stand in.
-GROUPS = (("", 1), ("offers", 2), ("", 1), ("waits in cycles", 4), ("turns", 2), ("dead times", 1), ("", 1), ("turns in a whole epoch", 4))
-HEAD = ("class", "taken", "refused %d" % QUEUE_FULL, "answers", "mean", "median", "95th", "longest", "owned", "idle", "dropped", "activates", "least", "most", "minimum", "cap")
+GROUPS = (("", 1), ("offers", 2), ("", 1), ("waits in cycles", 4), ("turns", 2), ("home turns", 2), ("dead times", 1), ("", 1), ("turns in a whole epoch", 4))
+HEAD = (
+    *("class", "taken", "refused %d" % QUEUE_FULL, "answers", "mean", "median", "95th", "longest", "owned", "idle", "started", "owned"),
+    *("dropped", "activates", "least", "most", "minimum", "cap"),
+)
 CSV_HEAD = (
     "folder",
     "class",
@@ -25,6 +28,8 @@ CSV_HEAD = (
     "wait_longest",
     "turns_owned",
     "turns_idle",
+    "home_turns_started",
+    "home_turns_owned",
     "dead_times_dropped",
     "activates",
     "whole_epochs",
@@ -60,6 +65,8 @@ def _row(figures, names, number):
         _shown(service.longest),
         service.turns,
         service.idle,
+        service.homes,
+        service.homes_owned,
         service.elided,
         service.activates,
         _shown(least),
@@ -110,7 +117,7 @@ def csv_of(reported):
         for number, service in enumerate(figures.services):
             mean = None if service.mean is None else "%.3f" % service.mean
             waits = [service.waited, mean, service.median, service.rank(95), service.longest]
-            turns = [service.turns, service.idle, service.elided, service.activates, figures.epochs, *_extremes(figures, number)]
+            turns = [service.turns, service.idle, service.homes, service.homes_owned, service.elided, service.activates, figures.epochs, *_extremes(figures, number)]
             allowed = [figures.policy.minimums[number], figures.policy.cap(number)]
             writer.writerow([name, number, names.of(number), service.taken, service.full, service.answers, *waits, *turns, *allowed])
     return out.getvalue()
@@ -129,6 +136,7 @@ def _class_value(figures, names, number, epochs):
         "answers": service.answers,
         "waits": {"sum": service.waited, "mean": service.mean, "median": service.median, "95th": service.rank(95), "longest": service.longest},
         "turns": {"owned": service.turns, "idle": service.idle, "dead_times_dropped": service.elided},
+        "home_turns": {"started": service.homes, "owned": service.homes_owned},
         "activates": service.activates,
         "whole_epochs": whole,
     }

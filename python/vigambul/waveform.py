@@ -52,7 +52,7 @@ class Signal:
 
 
 def _code(place):
-    """The short code of the signal at a place: a visible character. There are 94, and at most 51 signals."""
+    """The short code of the signal at a place: a visible character. There are 94, and at most 54 signals."""
     return chr(ord("!") + place)
 
 
@@ -84,6 +84,8 @@ class Signals:
         self.texts = [characters(name) for name in self.names]
         self.turn, self.epoch = self._add("", "turn", TURN_BITS), self._add("", "epoch", TURN_BITS)
         self.owner, self.owner_name = self._add("owner", "class", CLASS_BITS), self._add_name("owner")
+        self.home_valid = self._add("home", "valid", 1)
+        self.home, self.home_name = self._add("home", "class", CLASS_BITS), self._add_name("home")
         self.elided, self.in_dead_time = self._add("dead_time", "dropped", 1), self._add("dead_time", "inside", 1)
         self.activate, self.column = self._add("command", "activate", 1), self._add("command", "column", 1)
         self.command = self._add_request("command")
@@ -143,6 +145,8 @@ class Waveform(Replay):
         signals, pending = self.signals, self.pending
         pending[signals.turn], pending[signals.epoch] = self.turn, self.epoch
         pending[signals.owner], pending[signals.owner_name] = self.owner, signals.texts[self.owner]
+        pending[signals.home_valid] = int(self.home is not None)
+        pending[signals.home], pending[signals.home_name] = (0, NO_NAME) if self.home is None else (self.home, signals.texts[self.home])
         pending[signals.elided] = int(self.elided)
         pending.update(zip(signals.left, self.left))
 
@@ -201,7 +205,7 @@ class Waveform(Replay):
             self.file.write("#%d\n" % self.cycle)
 
 
-TITLES = {"": "turn", "dead_time": "dead time", "turns_left": "turns left"}
+TITLES = {"": "turn", "home": "home turn", "dead_time": "dead time", "turns_left": "turns left"}
 
 
 def save_file(policy, names, dump_name):

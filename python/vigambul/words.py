@@ -21,12 +21,15 @@ def command_words(command, names):
     return "%s %s" % ("column" if is_column(command) else "activate", request_words(command, names))
 
 
-def turn_words(turn, names):
-    """A turn number: whose turn starts, and its dead time. An extract hides the turns of others."""
+def turn_words(turn, names, home=None):
+    """A turn number: whose turn starts, whose home turn it is, if that is handed in, and its dead time. An extract hides the turns of others."""
     owner = owner_of(turn)
     if not 0 <= owner < CLASSES:
         return "turn of a class that may not be seen"
-    return "turn of %s, dead time %s" % (names.of(owner), "dropped" if is_elided(turn) else "kept")
+    parts = ["turn of %s" % names.of(owner), "dead time %s" % ("dropped" if is_elided(turn) else "kept")]
+    if home is not None:
+        parts.insert(1, "its home turn" if home == owner else "home turn of %s" % names.of(home))
+    return ", ".join(parts)
 
 
 def refusal_words(status):
@@ -49,11 +52,11 @@ def trace_words(word, names):
     return "malformed %08X" % word
 
 
-def tick_words(command, response, turn, names):
-    """What a tick shows; empty where it shows nothing."""
+def tick_words(command, response, turn, names, home=None):
+    """What a tick shows, with the class whose home turn starts, if there is one; empty where it shows nothing."""
     parts = []
     if starts_turn(turn):
-        parts.append(turn_words(turn, names))
+        parts.append(turn_words(turn, names, home))
     if command:
         parts.append(command_words(command, names))
     if response:
@@ -61,11 +64,12 @@ def tick_words(command, response, turn, names):
     return "; ".join(parts)
 
 
-def call_words(call, names):
-    """A call and what it showed, as in 'cycle 4: turn of red, dead time kept; activate red read bank 3 tag 1'."""
+def call_words(call, names, policy=None):
+    """A call and what it showed, as in 'cycle 4: turn of red, dead time kept; activate red read bank 3 tag 1'. With the policy it is said too whose home turn starts."""
     where = "cycle %d" % call.cycle
     if call.status != 0:
         return "%s: %s: %s" % (where, trace_words(call.word, names), refusal_words(call.status))
     if is_tick(call.word):
-        return "%s: %s" % (where, tick_words(call.command, call.response, call.turn, names) or "nothing")
+        home = policy.home(call.cycle // policy.turn) if policy and starts_turn(call.turn) else None
+        return "%s: %s" % (where, tick_words(call.command, call.response, call.turn, names, home) or "nothing")
     return "%s: %s: taken" % (where, trace_words(call.word, names))

@@ -293,6 +293,11 @@ sum-mono g m n l =
     let rest : m + (n - m) ≡ n = omega arith in
     subst (λ (k : ℕ). sum m g ≤ sum k g) rest (omega (arith, sum-split g m (n - m)))
 
+-- one number
+pub count-one : (f : ℕ → Bool) → count 1 f ≡ cond (f 0) 1 0
+unfolding count
+count-one f = let g : ℕ → ℕ = λ i. cond (f i) 1 0 in omega (arith, sum-more g 0, sum-none g)
+
 -- a test that is the same at every number
 pub count-constant : (n : ℕ) (b : Bool) → count n (λ i. b) ≡ cond b n 0
 count-constant n true = count-all-pass (λ i. true) n (λ i l. refl)

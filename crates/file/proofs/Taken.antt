@@ -14,7 +14,7 @@ use lib.ListN.{length, getD, List·getD-eq-default}
 use Rattle.basics.specs.Below.{sum, listOf}
 use Rattle.masks.specs.Mask.{member}
 use Rattle.order.specs.Order.{isClassIn, flowsIn, rowsFit, antisymmetric, transitive, hasLeast, coverSet}
-use Rattle.turns.specs.Turns.{minimumsSum, turnsSound, capIn}
+use Rattle.turns.specs.Turns.{minimumsSum, turnsSound, capIn, minimumsBelow}
 use Rattle.timing.specs.Timing.{within, gapsWithin, bankWithin, timingSound}
 use Rattle.policy.specs.Policy.{isClass, coversOf, cap, firstFailing, policyTests, refusal, shaped, storedFits, allStoredFits, inRange}
 use Rattle.file.specs.File.{byte, word, kind, start, bodySize, kindsFit, bodiesAbut, contentsFit, classCount, lengthsFit, rowAt, epochOf, minimumAt, timingOf, held, fileTests, status, refusedWith, readFile}
@@ -232,7 +232,7 @@ module _ (s : List ℕ) (given : Bytes s) (f : Form s) (l : Lengths s) where
       (lt-or-ge i 16)
 
   sum-is : minimumsSum (listOf 16 (minimumAt s)) ≡ sum (byte s 16) (λ i. byte s (18 + 2 * byte s 16 + i))
-  unfolding minimumsSum
+  unfolding minimumsSum minimumsBelow
   sum-is =
       sum-cut (λ i. getD (listOf 16 (minimumAt s)) i 0) (byte s 16) 16 (l .count-bounds .at-most) minimum-void
       ∙ sum-same (λ i. getD (listOf 16 (minimumAt s)) i 0) (λ i. byte s (18 + 2 * byte s 16 + i)) (byte s 16)

@@ -177,7 +177,7 @@ module _ (p : Policy) (given : inRange p ≡ true) (low : ℕ → Bool) (closed 
       let c = homeClass p k in
       cond-agree (homeTurn p k) (set xs c 1) (set ys c 1) xs ys
       (λ home.
-      let small : c < 16 = subst (λ (d : ℕ). d < 16) (first-home p given k home) (first-small p given k) in
+      let small : c < 16 = subst (λ (d : ℕ). d < 16) (first-home p k home) (first-small p given k) in
       set-agree low xs ys c 1 1 (subst (λ (n : ℕ). c < n) (sym long-1) small) (subst (λ (n : ℕ). c < n) (sym long-2) small) refl h)
       h
 
@@ -197,7 +197,7 @@ module _ (p : Policy) (given : inRange p ≡ true) (low : ℕ → Bool) (closed 
   unfolding takesHome
   same-home k lengths-1 lengths-2 h i =
       ⊎-elim
-      (λ home. ap (λ (n : ℕ). homeTurn p k && not (eqb n 0)) (h (homeClass p k) (sym (ap low (first-home p given k home)) ∙ i)))
+      (λ home. ap (λ (n : ℕ). homeTurn p k && not (eqb n 0)) (h (homeClass p k) (sym (ap low (first-home p k home)) ∙ i)))
       (λ other. and-fails-left (homeTurn p k) _ other ∙ sym (and-fails-left (homeTurn p k) _ other))
       (either (homeTurn p k))
 

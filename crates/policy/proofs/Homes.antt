@@ -1,23 +1,23 @@
 -- The laws of the home turns, of every policy that has those of the order, of the least class and of the caps, whose minimums' sum is within the epoch, and in which a number that
 -- is no class has no minimum.
 -- Assumes nothing.
-use mathlib.Core.Path.{_≡_, refl, sym, _∙_}
+use mathlib.Core.Path.{_≡_, refl, sym, ap, _∙_}
 use mathlib.Core.Logic.{_↔_, ⊎-elim}
 use mathlib.Core.Bool.{Bool, true, false, cond, _&&_}
-use Prim.Native.Nat.{ℕ, _+_, _%_, _≤_, _<_}
-use native.Mathlib.Nat.{not-suc-le-zero}
+use Prim.Native.Nat.{ℕ, _+_, _-_, _*_, _/_, _%_, _≤_, _<_}
+use native.Mathlib.Nat.{not-suc-le-zero, mod-lt, mod-add-div', add-mul-mod-self-right}
 use native.Mathlib.Omega.{arith}
-use borrow.Author.Tests.{eq-eqb, ne-eqb, leb-true, le-leb}
-use lib.Dec.{eqb}
+use borrow.Author.Tests.{eqb-true, eq-eqb, ne-eqb, leb-true, le-leb}
+use lib.Dec.{leb, eqb}
 use lib.ListN.{getD}
-use Rattle.basics.specs.Below.{sum, count}
+use Rattle.basics.specs.Below.{some, sum, count}
 use Rattle.order.specs.Order.{strictlyIn}
-use Rattle.turns.specs.Turns.{minimumsSum, minimumsAbove, freeTurns, homeTurnIn, homePlace, minimumsBelow}
+use Rattle.turns.specs.Turns.{minimumsSum, minimumsAbove, freeTurns, homeTurnIn, homePlace, minimumsBelow, homeAt}
 use Rattle.policy.specs.Policy.{isClass, flows, least, cap, minimum, homeTurn, homeClass}
 use Rattle.policy.specs.Laws.{OrderLaws, LeastLaws, CapLaws, HomeLaws}
 use Rattle.policy.specs.declared.Policy.{Policy}
-use Rattle.basics.proofs.Truth.{false-unless, true-unless, either, on-either}
-use Rattle.basics.proofs.Below.{sum-except, sum-single}
+use Rattle.basics.proofs.Truth.{false-unless, true-unless, either, and-left, and-right, on-either}
+use Rattle.basics.proofs.Below.{lt-or-ge, some-found, none-at, count-all-fail, sum-except, sum-single}
 use Rattle.order.proofs.Orders as orders
 use Rattle.turns.proofs.Homes as homes
 
@@ -60,6 +60,46 @@ module _ (p : Policy) (order : OrderLaws p) (lowest : LeastLaws p) (capped : Cap
       ∙ sum-single (λ h. cond (eqb h c) (minimum p h) 0) 16 c (order .class-small c l) (λ h b apart. rw (ne-eqb h c apart))
       ∙ rw (eq-eqb c c refl)
 
+  -- ---- in every epoch
+
+  every-epoch : (k j : ℕ) → k % p .epoch ≡ j % p .epoch → (homeTurn p k ≡ homeTurn p j) × (homeClass p k ≡ homeClass p j)
+  unfolding homeTurn homeTurnIn homeClass homePlace
+  every-epoch k j e =
+      let free = freeTurns (p .epoch) (p .minimums) in
+      (ap (leb free) e, ap (λ (x : ℕ). homeAt (p .minimums) (x - free)) e)
+
+  -- the class has one in an epoch, and it comes in this epoch still or in the next
+  comes-round : (k c : ℕ) → isClass p c ≡ true → 1 ≤ minimum p c → (d : ℕ) × (d < p .epoch) × (homeTurn p (k + d) ≡ true) × (homeClass p (k + d) ≡ c)
+  comes-round k c class some-minimum =
+      let f : ℕ → Bool = λ j. homeTurn p j && eqb (homeClass p j) c in
+      ⊎-elim
+      (λ t.
+      let w = some-found f (p .epoch) t in
+      let j = w .0 in
+      let r = k % p .epoch in
+      let q = k / p .epoch in
+      let parts = mod-add-div' k (p .epoch) in
+      let under = mod-lt k {m = p .epoch} (capped .epoch-bounds .0) in
+      let there : (d : ℕ) → (k + d) % p .epoch ≡ j % p .epoch → (homeTurn p (k + d) ≡ true) × (homeClass p (k + d) ≡ c) =
+      λ d e.
+      let same = every-epoch (k + d) j e in
+      (same .0 ∙ and-left (homeTurn p j) (eqb (homeClass p j) c) (w .2), same .1 ∙ eqb-true (homeClass p j) c (and-right (homeTurn p j) (eqb (homeClass p j) c) (w .2)))
+      in
+      ⊎-elim
+      (λ (past : j < r).
+      let d = p .epoch + j - r in
+      let reach : k + d ≡ j + (q + 1) * p .epoch = omega (arith, parts, under, past) in
+      let found = there d (ap (λ (x : ℕ). x % p .epoch) reach ∙ add-mul-mod-self-right j (q + 1) (p .epoch)) in
+      (d, omega (arith, past, under), found .0, found .1))
+      (λ (still : r ≤ j).
+      let d = j - r in
+      let reach : k + d ≡ j + q * p .epoch = omega (arith, parts, still) in
+      let found = there d (ap (λ (x : ℕ). x % p .epoch) reach ∙ add-mul-mod-self-right j q (p .epoch)) in
+      (d, omega (arith, w .1), found .0, found .1))
+      (lt-or-ge j r))
+      (λ t. absurd (not-suc-le-zero {n = 0} (omega (arith, some-minimum, as-its-minimum c class, count-all-fail f (p .epoch) (none-at f (p .epoch) t)))))
+      (either (some (p .epoch) f))
+
   -- ---- the least class's cap
 
   -- every other class is strictly above the least
@@ -69,7 +109,7 @@ module _ (p : Policy) (order : OrderLaws p) (lowest : LeastLaws p) (capped : Cap
 
   -- so the minimums above it are all but its own
   all-but-own : minimumsAbove (p .rows) (p .minimums) (least p) + minimum p (least p) ≡ minimumsSum (p .minimums)
-  unfolding minimumsAbove minimumsSum minimum
+  unfolding minimumsAbove minimumsSum minimumsBelow minimum
   all-but-own =
       sum-except (λ j. cond (strictlyIn (p .rows) (least p) j) (getD (p .minimums) j 0) 0) (λ j. getD (p .minimums) j 0) 16 (least p) (order .class-small (least p) (lowest .is-class))
       (rw (false-unless (strictlyIn (p .rows) (least p) (least p)) (λ t. orders.strictly-apart (p .rows) (least p) (least p) t refl)))
@@ -90,5 +130,7 @@ module _ (p : Policy) (order : OrderLaws p) (lowest : LeastLaws p) (capped : Cap
         only = only;
         as-often = as-often;
         as-its-minimum = as-its-minimum;
+        every-epoch = every-epoch;
+        comes-round = comes-round;
         least-cap = least-cap;
       }

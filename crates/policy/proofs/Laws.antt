@@ -13,7 +13,7 @@ use lib.ListN.{length, getD, List·getD-eq-default}
 use Rattle.basics.specs.Below.{every}
 use Rattle.masks.specs.Mask.{member, size}
 use Rattle.order.specs.Order.{strictlyIn, rowFits, rowsFit, antisymmetric, transitive, hasLeast, leastAt, leastIn, betweenIn, coversIn, coverSet, aboveIn}
-use Rattle.turns.specs.Turns.{turnsSound, minimumsSum, minimumsAbove, capIn}
+use Rattle.turns.specs.Turns.{turnsSound, minimumsSum, minimumsAbove, capIn, minimumsBelow}
 use Rattle.timing.specs.Timing.{within, gapsWithin, bankWithin, timingSound}
 use Rattle.policy.specs.Policy.{flows, strictly, least, above, coversOf, coverCount, cover, cap, minimum, isClass, shaped, storedFits, allStoredFits, policyTests, firstFailing, refusal, inRange}
 use Rattle.policy.specs.Laws.{OrderLaws, LeastLaws, Covering, CoverLaws, AboveLaws, CapLaws, TimingLaws, PolicyLaws}
@@ -361,7 +361,7 @@ module _ (p : Policy) (given : inRange p ≡ true) where
 
   -- a class's own minimum is not among those above it, so the two together are still within the epoch
   room : (i : ℕ) → i < 16 → minimumsAbove (p .rows) (p .minimums) i + getD (p .minimums) i 0 ≤ p .epoch
-  unfolding minimumsAbove minimumsSum part
+  unfolding minimumsAbove minimumsSum minimumsBelow part
   room i l =
       let own-part : part i i ≡ 0 = rw (false-unless (strictlyIn (p .rows) i i) (λ t. orders.strictly-apart (p .rows) i i t refl)) in
       le-trans (sum-without (part i) (λ j. getD (p .minimums) j 0) 16 (λ j m. part-under i j) i l own-part) within-epoch

@@ -81,7 +81,10 @@ pub record HomeLaws (p : Policy) : Type 0 where
   -- each class has as many as its minimum: so of the classes of any kind there are as many as their minimums together
   pub as-often : (f : ℕ → Bool) → count (p .epoch) (λ j. homeTurn p j && f (homeClass p j)) ≡ sum 16 (λ c. cond (f c) (minimum p c) 0)
   pub as-its-minimum : (c : ℕ) → isClass p c ≡ true → count (p .epoch) (λ j. homeTurn p j && eqb (homeClass p j) c) ≡ minimum p c
-  -- the least class may have them all but those of the others: what its cap has above its minimum is the turns that are no home turns
+  -- the plan is the same in every epoch, so a class with a minimum has a home turn among any E turns one after the other
+  pub every-epoch : (k j : ℕ) → k % p .epoch ≡ j % p .epoch → (homeTurn p k ≡ homeTurn p j) × (homeClass p k ≡ homeClass p j)
+  pub comes-round : (k c : ℕ) → isClass p c ≡ true → 1 ≤ minimum p c → (d : ℕ) × (d < p .epoch) × (homeTurn p (k + d) ≡ true) × (homeClass p (k + d) ≡ c)
+  -- the least class may own every turn but the home turns of others: its cap is its minimum and the turns that are no home turns
   pub least-cap : cap p (least p) ≡ freeTurns (p .epoch) (p .minimums) + minimum p (least p)
 
 -- the timing's bounds: "each gap 1 to the dead time", the answer delay at most the dead time, the dead time below the turn length, the column delay below the answer delay

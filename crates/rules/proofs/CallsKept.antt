@@ -305,12 +305,15 @@ fresh-ranged p given =
 
 -- ---- in the words of 13
 
+pub fresh-fits : (p : Policy) → policyInRange p ≡ true → inRange p (freshState p) ≡ true
+fresh-fits p given = in-range p (freshState p) (fresh-ranged p given)
+
 module _ (p : Policy) where
   pub fresh-in-range : policyInRange p ≡ true → inRange p (fresh p .state) ≡ true
   unfolding fresh
   fresh-in-range given =
       subst (λ (m : Made). inRange p (m .state) ≡ true) (sym (on-true (policyInRange p) (record { status = 0; state = freshState p }) (record { status = 13; state = zeroState }) given))
-      (in-range p (freshState p) (fresh-ranged p given))
+      (fresh-fits p given)
 
   pub offer-in-range : (s : State) (r : Request) → inRange p s ≡ true → inRange p (offer p s r .state) ≡ true
   offer-in-range s r e =

@@ -31,13 +31,13 @@ use Rattle.state.specs.declared.Offered.{Offered}
 use Rattle.state.specs.declared.Ticked.{Ticked}
 use Rattle.rules.proofs.Lookahead.{elision}
 use Rattle.rules.proofs.Wire.{gap-shift, gap-new, gap-none, Before}
-use Rattle.rules.proofs.Range.{sound-bank, sound-kind, right-sound, right-class, Fits, Ranged, ranged, in-range, BusRange, bus-range, goes-waits, going-right}
+use Rattle.rules.proofs.Range.{sound-bank, sound-kind, right-sound, right-class, Fits, Ranged, ranged, BusRange, bus-range, goes-waits, going-right}
 use Rattle.rules.proofs.PendingWords.{Later, each-map}
 use Rattle.rules.proofs.FlightKept.{columns-next, responses-next, activates-next}
 use Rattle.rules.proofs.TurnsKept.{turns-kept}
 use Rattle.rules.proofs.Call.{offer-is, tick-is, tick-late}
 use Rattle.rules.proofs.Calendar.{until-start, until-nearer, offset-far, number-start, number-stays}
-use Rattle.rules.proofs.CallsKept.{zero-at, none-due, fresh-ranged, offer-in-range, tick-in-range}
+use Rattle.rules.proofs.CallsKept.{zero-at, none-due, offer-in-range, tick-in-range, fresh-fits}
 
 -- ---- in flight
 
@@ -231,7 +231,7 @@ module _ (p : Policy) (given : policyInRange p ≡ true) where
   unfolding freshState stateAtStart nothingInFlight
   fresh-held =
       record {
-        ranges = in-range p (freshState p) (fresh-ranged p given);
+        ranges = fresh-fits p given;
         flowing = record { column = λ d l. inl (none-due (0 + d)); response = λ d l. inl (none-due (0 + d)) };
         begun = λ x. absurd (not-both x refl);
         stands = λ x. absurd (not-both x refl);

@@ -44,5 +44,9 @@ pub mod RunLaws
 pub mod RoundRobin
 -- of the ticks of a list, one after the other
 pub mod ListTicks
--- and as `specs/Guarantees.antt` states them
+-- and of its turns
+pub mod ListTurns
+-- all of them, as `specs/Guarantees.antt` states what a minimum guarantees
 pub mod Guarantees
+-- and that caps suffice
+pub mod TurnsLeft

@@ -29,14 +29,14 @@ use Rattle.rules.specs.Calls.{Answer, ticked, offered, answerTo, stateAf
 use Rattle.rules.specs.Guarantees.{stateAtTick}
 use Rattle.rules.proofs.Queue.{enqueue-longer, enqueue-else, enqueue-before, enqueue-apart}
 use Rattle.rules.proofs.Range.{Ranged, ranged, small-classes}
-use Rattle.rules.proofs.Call.{offer-is, tick-is, tick-late, called-offer, called-malformed}
+use Rattle.rules.proofs.Call.{offer-is, tick-late, called-offer, called-malformed}
 use Rattle.rules.proofs.CallsKept.{below-sixteen, room, taken}
-use Rattle.rules.proofs.SingleCalls.{tick-called}
+use Rattle.rules.proofs.SingleCalls.{tick-called, tick-answered}
 use Rattle.rules.proofs.Calls.{answered-in-range, after-in-range}
 
 -- ---- queues that grow at their ends
 
--- no class has fewer requests waiting, and the head of one that has some is the same
+-- the class has no fewer requests waiting, and if it had some its head is the same
 pub record Grown (q r : Queues) (c : ℕ) : Type 0 where
   pub longer : lengthOf q c ≤ lengthOf r c
   pub head : ((lengthOf q c ≡ 0) → ⊥) → waitingAt r c 0 ≡ waitingAt q c 0
@@ -118,12 +118,9 @@ module _ (p : Policy) where
       (either (isOffer w))
 
   -- a tick that is not refused
-  pub tick-answered : (s : State) → inRange p s ≡ true → s .cycle < lastCycle → answerTo p s 0 ≡ ticked (afterTick p s)
-  tick-answered s fits left = tick-called p s ∙ ap ticked (tick-is p s fits (lt-ltb (s .cycle) lastCycle left))
-
-  pub tick-counts : (s : State) → inRange p s ≡ true → s .cycle < lastCycle → answerTo p s 0 .state .cycle ≡ s .cycle + 1
+  tick-counts : (s : State) → inRange p s ≡ true → s .cycle < lastCycle → answerTo p s 0 .state .cycle ≡ s .cycle + 1
   unfolding afterTick
-  tick-counts s fits left = ap (λ (a : Answer). a .state .cycle) (tick-answered s fits left)
+  tick-counts s fits left = ap (λ (a : Answer). a .state .cycle) (tick-answered p s fits (lt-ltb (s .cycle) lastCycle left))
 
   -- and any tick
   tick-near : (s : State) → inRange p s ≡ true → answerTo p s 0 .state .cycle ≤ s .cycle + 1

@@ -1,5 +1,6 @@
 -- The laws of the lookahead: its steps, and that it ends before its bound, since it goes on only to covers, which have fewer classes above them. The next turn's traversal follows it: where the
--- lookahead reached the owner, the traversal tries the owner as well, whatever waits, and the other way round where every class waits. Hence the elision lemma: it ends there or above.
+-- lookahead reached the owner, the traversal tries the owner as well, whatever waits, and the other way round where every class waits. Hence the elision lemma: it ends there or above. Before a home turn
+-- it does so since the owner may flow to the class where the traversal starts.
 -- Assumes nothing.
 use mathlib.Core.Path.{_≡_, refl, sym, ap, _∙_, subst}
 use mathlib.Core.Logic.{inl, ⊎-elim}
@@ -24,7 +25,7 @@ use Rattle.rules.specs.Lookahead.{Ahead, lookingAhead, goesOn, reaches, 
 use Rattle.rules.specs.Step.{leftAtStart, ownedBy, startTurn}
 use Rattle.rules.specs.Laws.{Elision}
 use Rattle.rules.specs.RoundRobin.{passesOn, Tries}
-use Rattle.rules.proofs.Traversal.{named-covers, passes-on, try-passes, climbs, first-home, first-least, first-class, tried-least, to-cover, ascends}
+use Rattle.rules.proofs.Traversal.{named-covers, passes-on, try-passes, climbs, first-home, first-least, first-class, tried-other, to-cover, ascends}
 use Rattle.rules.proofs.Passing.{on-takes, on-later, first-tried, later-tried, tried-later, taken-tried}
 
 -- ---- which rule decides: what the next turn is
@@ -219,10 +220,10 @@ module _ (p : Policy) (given : inRange p ≡ true) where
       ⊎-elim
       (λ home.
       order .transitive owner then (ends then tried)
-      (rw (first-home p given (k + 1) home) (sym (elides-home p k left pointers owner home) ∙ e))
+      (rw (first-home p (k + 1) home) (sym (elides-home p k left pointers owner home) ∙ e))
       (ascends p given 16 lengths tried pointers then (first-class p given (k + 1))))
       (λ other.
-      rw (first-least p given (k + 1) other, tried-least p given (k + 1) (nextLeft p k left) other)
+      rw (first-least p (k + 1) other, tried-other p (k + 1) (nextLeft p k left) other)
       (⊎-elim
       (λ o. subst (λ (x : ℕ). flows p owner x ≡ true) (sym o) (order .reflexive owner l))
       (ends-above lengths (nextLeft p k left) pointers owner 16 pointers (least p) (policy-laws p given .lowest .is-class))

@@ -1,5 +1,5 @@
--- W-201's promises hold of every policy in range: a traversal only rises, so it passes on from a class once at most, and each class's pointer moves by one for each turn that the class passes on; and the next turn's
--- traversal follows the trial walk.
+-- W-201's promises hold of every policy in range: a traversal only rises, so it passes on from a class once at most, and each class's pointer moves by one for each turn that the class passes on; and before a turn
+-- that is no home turn its traversal follows the trial walk, while before a home turn the owner's row decides. And what W-202 says of who takes a home turn and who is charged.
 -- Assumes nothing.
 use mathlib.Core.Path.{_≡_, refl, sym, ap, _∙_, subst}
 use mathlib.Core.Logic.{_⊎_, inl, inr, ⊎-elim}
@@ -29,19 +29,20 @@ use Rattle.state.specs.declared.State.{State}
 use Rattle.state.specs.declared.Turns.{Turns}
 use Rattle.state.specs.declared.Offered.{Offered}
 use Rattle.state.specs.declared.Ticked.{Ticked}
-use Rattle.rules.specs.Traversal.{firstClass, Candidates, candidates, moved, movedPointer, passedAt, named, takes, Reached, endsAt, tryClass, leftTried}
+use Rattle.rules.specs.Traversal.{firstClass, Candidates, candidates, moved, movedPointer, passedAt, named, takes, Reached, endsAt, tryClass, leftTried, charge, takesHome, charged}
 use Rattle.rules.specs.Lookahead.{reaches, nextLeft, aheadOf}
 use Rattle.rules.specs.Step.{turnStarts, turnNumber, leftAtStart, turnWord, TurnStart, ownedBy, startTurn, turnsAt}
 use Rattle.rules.specs.Call.{offerOn, afterTick, tick}
-use Rattle.rules.specs.Calls.{Answer, ticked, answer, answerTo, stateAfter}
-use Rattle.rules.specs.RoundRobin.{passesOn, passesTo, seenAt, triedFirst, tickStarts, tickPasses, tickPassesTo, turnsAfter, Shows, callPasses, passedTurns, inTurn, RoundRobin, Tries, TriesOwner, nextTurn, TrialFollows}
-use Rattle.rules.proofs.Traversal.{moved-names, try-takes, try-passes, falls, climbs, first-least, tried-least}
+use Rattle.rules.specs.Calls.{Answer, answer, answerTo, stateAfter}
+use Rattle.rules.specs.RoundRobin.{passesOn, passesTo, seenAt, triedFirst, tickStarts, tickPasses, tickPassesTo, turnsAfter, Shows, callPasses, passedTurns, inTurn, RoundRobin, Tries, TriesOwner, nextTurn, TrialFollows, HomeTurns}
+use Rattle.rules.proofs.Traversal.{moved-names, try-takes, try-passes, falls, climbs, first-least, tried-other, first-home, home-takes}
 use Rattle.rules.proofs.Passing.{on-takes, on-passes, to-passes, on-later, first-tried, next-tried, passes-full, never-back, owner-keeps}
 use Rattle.rules.proofs.Lookahead.{elides-home, elides-other, follows, leads}
-use Rattle.rules.proofs.Range.{ranged, in-range}
+use Rattle.rules.proofs.TurnsKept.{start-within}
+use Rattle.rules.proofs.Range.{ranged}
 use Rattle.rules.proofs.Call.{offer-is, tick-is, tick-late}
-use Rattle.rules.proofs.SingleCalls.{tick-called}
-use Rattle.rules.proofs.CallsKept.{zero-at, fresh-ranged}
+use Rattle.rules.proofs.SingleCalls.{tick-called, tick-answered}
+use Rattle.rules.proofs.CallsKept.{zero-at, fresh-fits}
 use Rattle.rules.proofs.Calendar.{next-within, next-wraps}
 use Rattle.rules.proofs.Calls.{answered-in-range}
 
@@ -226,7 +227,7 @@ module _ (p : Policy) (given : policyInRange p ≡ true) where
     at-start : tickStarts p s ≡ true → (P : Turns → ℕ → Type 0) → P (started .turns) (started .shown) → P (turnsAfter p s) (answerTo p s 0 .turn)
     unfolding afterTick turnsAt
     at-start h P holds =
-        subst (λ (a : Answer). P (a .state .turns) (a .turn)) (sym (tick-called p s ∙ ap ticked (tick-is p s fits (and-left (ltb (s .cycle) lastCycle) (turnStarts p (s .cycle)) h))))
+        subst (λ (a : Answer). P (a .state .turns) (a .turn)) (sym (tick-answered p s fits (and-left (ltb (s .cycle) lastCycle) (turnStarts p (s .cycle)) h)))
         (subst (λ (t : TurnStart). P (t .turns) (t .shown)) (sym (on-true (turnStarts p (s .cycle)) _ _ (and-right (ltb (s .cycle) lastCycle) (turnStarts p (s .cycle)) h))) holds)
 
     owner-shown : tickStarts p s ≡ true → (d : ℕ) → owner ≡ d → Shows p s d
@@ -257,7 +258,7 @@ module _ (p : Policy) (given : policyInRange p ≡ true) where
     -- and the traversal of that turn, from the least class by the turns left as they are
     from-least : homeTurn p (nextTurn p s) ≡ false → (lengths : List ℕ) → TriesOwner p (nextTurn p s) (started .turns) lengths ≡ Tries 16 (candidates (p .covers) lengths (nextLeft p (turnNumber p (s .cycle)) (started .turns .left))) (started .turns .pointers) (least p) (started .turns .owner)
     unfolding nextLeft leftAtStart
-    from-least other lengths = rw (first-least p given (nextTurn p s) other, tried-least p given (nextTurn p s) (leftAtStart p (nextTurn p s) (started .turns .left)) other)
+    from-least other lengths = rw (first-least p (nextTurn p s) other, tried-other p (nextTurn p s) (leftAtStart p (nextTurn p s) (started .turns .left)) other)
 
     trial-dropped : tickStarts p s ≡ true → homeTurn p (nextTurn p s) ≡ false → turnsAfter p s .elided ≡ true → (lengths : List ℕ) → TriesOwner p (nextTurn p s) (turnsAfter p s) lengths
     trial-dropped h other =
@@ -281,6 +282,25 @@ module _ (p : Policy) (given : policyInRange p ≡ true) where
         at-start h (λ turns shown. turns .elided ≡ flows p (turns .owner) (homeClass p (nextTurn p s)))
         (elides-home p (turnNumber p (s .cycle)) (started .turns .left) (started .turns .pointers) (started .turns .owner) home)
 
+    -- ---- home turns
+
+    home-taken : tickStarts p s ≡ true → takesHome p (turnNumber p (s .cycle)) (s .queues .lengths) ≡ true → Shows p s (homeClass p (turnNumber p (s .cycle))) × (turnsAfter p s .left ≡ leftAtStart p (turnNumber p (s .cycle)) (s .turns .left))
+    unfolding startTurn ownedBy charged takesHome endsAt
+    home-taken h taken =
+        let k = turnNumber p (s .cycle) in
+        let left = leftAtStart p k (s .turns .left) in
+        let long = start-within p given k (s .turns .left) (ranged p s fits .turns .left-within) .sixteen in
+        let home = first-home p k (and-left (homeTurn p k) _ taken) in (
+          owner-shown h (homeClass p k) (ap (λ (r : Reached). r .owner) (home-takes p given k (s .queues .lengths) left long taken 16 (s .turns .pointers)) ∙ home),
+          at-start h (λ turns shown. turns .left ≡ left) (ap (λ (b : Bool). cond b left (charge left owner)) taken),
+        )
+
+    home-charged : tickStarts p s ≡ true → takesHome p (turnNumber p (s .cycle)) (s .queues .lengths) ≡ false → turnsAfter p s .left ≡ charge (leftAtStart p (turnNumber p (s .cycle)) (s .turns .left)) (turnsAfter p s .owner)
+    unfolding startTurn ownedBy charged
+    home-charged h idle =
+        let left = leftAtStart p (turnNumber p (s .cycle)) (s .turns .left) in
+        at-start h (λ turns shown. turns .left ≡ charge left (turns .owner)) (ap (λ (b : Bool). cond b left (charge left owner)) idle)
+
   -- ---- a list of calls
 
   list-turn : (s : State) → inRange p s ≡ true → (c : ℕ) → c < 16 → (m : ℕ) → getD (s .turns .pointers) c 0 ≡ inTurn (coverCount p c) m → (ws : List ℕ) → getD (stateAfter p s ws .turns .pointers) c 0 ≡ inTurn (coverCount p c) (m + passedTurns p s ws c)
@@ -299,7 +319,7 @@ module _ (p : Policy) (given : policyInRange p ≡ true) where
   pointer-turn : (ws : List ℕ) (c : ℕ) → c < 16 → getD (stateAfter p (freshState p) ws .turns .pointers) c 0 ≡ inTurn (coverCount p c) (passedTurns p (freshState p) ws c)
   pointer-turn ws c small =
       let none : 0 + passedTurns p (freshState p) ws c ≡ passedTurns p (freshState p) ws c = omega arith in
-      list-turn (freshState p) (in-range p (freshState p) (fresh-ranged p given)) c small 0 (fresh-turn c) ws ∙ ap (inTurn (coverCount p c)) none
+      list-turn (freshState p) (fresh-fits p given) c small 0 (fresh-turn c) ws ∙ ap (inTurn (coverCount p c)) none
 
   pub round-robin : RoundRobin p
   unfolding tickPasses tickPassesTo named movedPointer coverCount cover coversOf
@@ -328,3 +348,6 @@ module _ (p : Policy) (given : policyInRange p ≡ true) where
 
   pub trial-follows : TrialFollows p
   trial-follows = record { dropped = trial-dropped; kept = trial-kept; before-home = home-next }
+
+  pub home-turns : HomeTurns p
+  home-turns = record { taken = home-taken; charged = home-charged }

@@ -15,10 +15,11 @@ use Rattle.order.specs.Order.{isClassIn}
 use Rattle.order.specs.Laws.{SmallClasses}
 use Rattle.policy.specs.declared.Policy.{Policy}
 use Rattle.basics.proofs.Truth.{false-unless, either, same-truth, and-fails-left, and-fails-right, on-true, on-false}
+use Rattle.requests.specs.Sizes.{lastCycle}
 use Rattle.requests.specs.Word.{classOf, kindOf, bankOf, requestOf, wordOf, classFits, bankAndKindFit}
 use Rattle.rules.specs.Queue.{enqueue, offerStatus, queuesAfter}
 use Rattle.state.specs.Range.{inRange}
-use Rattle.rules.specs.Call.{offerOn, offer, tick}
+use Rattle.rules.specs.Call.{offerOn, offer, tick, afterTick}
 use Rattle.rules.specs.Calls.{ticked, offered, answerTo}
 use Rattle.requests.specs.declared.Request.{Request}
 use Rattle.queues.specs.declared.Queues.{Queues}
@@ -27,7 +28,7 @@ use Rattle.state.specs.declared.Offered.{Offered}
 use Rattle.requests.proofs.Word.{class-back, kind-back, bank-back, is-offer, word-back}
 use Rattle.requests.proofs.Trace.{told-tick, told-offer}
 use Rattle.rules.proofs.Range.{ranged, small-classes}
-use Rattle.rules.proofs.Call.{called-tick, called-offer, offer-is}
+use Rattle.rules.proofs.Call.{called-tick, called-offer, offer-is, tick-is}
 use Rattle.rules.proofs.CallsKept.{taken}
 
 -- the classes of a state in range are among the sixteen
@@ -128,6 +129,10 @@ module _ (p : Policy) (s : State) where
 
   pub tick-called : answerTo p s 0 ≡ ticked (tick p s)
   tick-called = called-tick p s 0 (told-tick 0 refl)
+
+  -- on a state in range with a tick left
+  pub tick-answered : inRange p s ≡ true → ltb (s .cycle) lastCycle ≡ true → answerTo p s 0 ≡ ticked (afterTick p s)
+  tick-answered fits left = tick-called ∙ ap ticked (tick-is p s fits left)
 
   pub offer-called : (r : Request) → answerTo p s (wordOf r) ≡ offered (offer p s r)
   unfolding wordOf

@@ -1,5 +1,6 @@
 -- The laws of the traversal: where a moved pointer leads; the one induction over its ascents by which the rest is proved; and that its bound is never met, since a class
--- that passes the turn on has a cover, its moved pointer names one, and a cover has fewer classes above it. Every policy in range has what this rests on.
+-- that passes the turn on has a cover, its moved pointer names one, and a cover has fewer classes above it. Every policy in range has what this rests on. And of a home turn (W-202): where the traversal
+-- starts, and that its class takes it where a request waits, whatever turns it has left, and is tried like any class where none does.
 -- Assumes nothing.
 use mathlib.Core.Path.{_≡_, refl, sym, ap, _∙_, subst}
 use mathlib.Core.Logic.{⊎-elim}
@@ -139,7 +140,7 @@ module _ (all : Candidates) where
 
 -- ---- of two traversals on the same covers: where the same classes take the turn, they are the same
 
-pub same-takes : (covers lengths left others rest : List ℕ) → ((c : ℕ) → takes (candidates covers lengths left) c ≡ takes (candidates covers others rest) c) → (bound : ℕ) (pointers : List ℕ) (c : ℕ) → tryClass bound (candidates covers lengths left) pointers c ≡ tryClass bound (candidates covers others rest) pointers c
+same-takes : (covers lengths left others rest : List ℕ) → ((c : ℕ) → takes (candidates covers lengths left) c ≡ takes (candidates covers others rest) c) → (bound : ℕ) (pointers : List ℕ) (c : ℕ) → tryClass bound (candidates covers lengths left) pointers c ≡ tryClass bound (candidates covers others rest) pointers c
 unfolding tryClass
 same-takes covers lengths left others rest same =
     let all = candidates covers others rest in
@@ -163,7 +164,9 @@ climbs p given =
           not-both (w .1) (ap (λ (m : ℕ). member m (w .0)) none ∙ member-zero (w .0));
     }
 
-module _ (p : Policy) (given : inRange p ≡ true) where
+-- ---- home turns, and others
+
+module _ (p : Policy) where
   -- the traversal of a home turn starts at its class, and of another at the least one
   pub first-home : (k : ℕ) → homeTurn p k ≡ true → firstClass p k ≡ homeClass p k
   unfolding firstClass
@@ -173,31 +176,10 @@ module _ (p : Policy) (given : inRange p ≡ true) where
   unfolding firstClass
   first-least k e = rw e
 
-  pub first-class : (k : ℕ) → isClass p (firstClass p k) ≡ true
-  first-class k =
-      ⊎-elim
-      (λ e. rw (first-home k e) (policy-laws p given .homes .of-class k e))
-      (λ e. rw (first-least k e) (policy-laws p given .lowest .is-class))
-      (either (homeTurn p k))
-
-  pub first-small : (k : ℕ) → firstClass p k < 16
-  first-small k = policy-laws p given .order .class-small (firstClass p k) (first-class k)
-
   -- at another turn than a home turn the traversal goes by the turns left as they are
-  pub tried-least : (k : ℕ) (left : List ℕ) → homeTurn p k ≡ false → leftTried p k left ≡ left
+  pub tried-other : (k : ℕ) (left : List ℕ) → homeTurn p k ≡ false → leftTried p k left ≡ left
   unfolding leftTried
-  tried-least k left e = rw e
-
-  -- a home turn is taken by its class where a request of it waits, whatever turns it has left
-  pub home-takes : (k : ℕ) (lengths left : List ℕ) → length left ≡ 16 → takesHome p k lengths ≡ true → (bound : ℕ) (pointers : List ℕ) → tryClass bound (candidates (p .covers) lengths (leftTried p k left)) pointers (firstClass p k) ≡ endsAt pointers (firstClass p k)
-  unfolding takesHome leftTried takes takesBy
-  home-takes k lengths left long e bound pointers =
-      let home = and-left (homeTurn p k) (not (eqb (getD lengths (homeClass p k) 0) 0)) e in
-      let waits = and-right (homeTurn p k) (not (eqb (getD lengths (homeClass p k) 0) 0)) e in
-      let first = first-home k home in
-      let small : homeClass p k < length left = omega (arith, first-small k, first, long) in
-      try-takes (candidates (p .covers) lengths (leftTried p k left)) bound pointers (firstClass p k)
-      (rw (first, home, waits, getD-set-same left (homeClass p k) 1 0 small) refl)
+  tried-other k left e = rw e
 
   -- where none waits its turns left make no difference, so the traversal is the one by the turns left as they are
   idle-takes : (k : ℕ) (lengths left : List ℕ) → takesHome p k lengths ≡ false → (c : ℕ) → takes (candidates (p .covers) lengths (leftTried p k left)) c ≡ takes (candidates (p .covers) lengths left) c
@@ -209,13 +191,38 @@ module _ (p : Policy) (given : inRange p ≡ true) where
       rw home
       (⊎-elim
       (λ here. rw (eqb-true c (homeClass p k) here, idle))
-      (λ apart. rw (getD-set-other left (homeClass p k) c 1 0 (eqb-false c (homeClass p k) apart)))
+      (λ apart. rw (getD-set-other left (homeClass p k) c _ 0 (eqb-false c (homeClass p k) apart)))
       (either (eqb c (homeClass p k)))))
       (λ other. rw other)
       (either (homeTurn p k))
 
   pub home-idle : (k : ℕ) (lengths left : List ℕ) → takesHome p k lengths ≡ false → (bound : ℕ) (pointers : List ℕ) (c : ℕ) → tryClass bound (candidates (p .covers) lengths (leftTried p k left)) pointers c ≡ tryClass bound (candidates (p .covers) lengths left) pointers c
   home-idle k lengths left e = same-takes (p .covers) lengths (leftTried p k left) lengths left (idle-takes k lengths left e)
+
+-- ---- where it starts, and where it ends
+
+module _ (p : Policy) (given : inRange p ≡ true) where
+  -- the traversal starts at a class
+  pub first-class : (k : ℕ) → isClass p (firstClass p k) ≡ true
+  first-class k =
+      ⊎-elim
+      (λ e. rw (first-home p k e) (policy-laws p given .homes .of-class k e))
+      (λ e. rw (first-least p k e) (policy-laws p given .lowest .is-class))
+      (either (homeTurn p k))
+
+  pub first-small : (k : ℕ) → firstClass p k < 16
+  first-small k = policy-laws p given .order .class-small (firstClass p k) (first-class k)
+
+  -- a home turn is taken by its class where a request of it waits, whatever turns it has left
+  pub home-takes : (k : ℕ) (lengths left : List ℕ) → length left ≡ 16 → takesHome p k lengths ≡ true → (bound : ℕ) (pointers : List ℕ) → tryClass bound (candidates (p .covers) lengths (leftTried p k left)) pointers (firstClass p k) ≡ endsAt pointers (firstClass p k)
+  unfolding takesHome leftTried takes takesBy
+  home-takes k lengths left long e bound pointers =
+      let home = and-left (homeTurn p k) (not (eqb (getD lengths (homeClass p k) 0) 0)) e in
+      let waits = and-right (homeTurn p k) (not (eqb (getD lengths (homeClass p k) 0) 0)) e in
+      let first = first-home p k home in
+      let small : homeClass p k < length left = omega (arith, first-small k, first, long) in
+      try-takes (candidates (p .covers) lengths (leftTried p k left)) bound pointers (firstClass p k)
+      (rw (first, home, waits, getD-set-same left (homeClass p k) 1 0 small) refl)
 
   -- a class may flow to the cover that its pointer names
   pub to-cover : (pointers : List ℕ) (c : ℕ) → ((getD (p .covers) c 0 ≡ 0) → ⊥) → flows p c (named (p .covers) pointers c) ≡ true

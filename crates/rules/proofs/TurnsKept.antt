@@ -15,7 +15,7 @@ use Rattle.policy.specs.declared.Policy.{Policy}
 use Rattle.basics.proofs.Truth.{either, on-both, on-true, on-false}
 use Rattle.basics.proofs.Stores.{stored-at}
 use Rattle.policy.proofs.Laws.{policy-laws}
-use Rattle.rules.specs.Traversal.{firstClass, candidates, moved, movedPointer, passedAt, endsAt, tryClass, charge, takesHome, leftTried, charged}
+use Rattle.rules.specs.Traversal.{firstClass, candidates, moved, movedPointer, passedAt, endsAt, tryClass, charge, leftTried, charged, takesHome}
 use Rattle.rules.specs.Step.{turnStarts, turnNumber, leftAtStart, TurnStart, ownedBy, startTurn, turnsAt}
 use Rattle.state.specs.declared.Turns.{Turns}
 use Rattle.rules.proofs.Range.{Within, TurnsRange}

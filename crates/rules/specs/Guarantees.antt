@@ -1,4 +1,4 @@
--- W-202's promises: what a minimum guarantees. They are said of every list of calls from fresh, and of what its log shows.
+-- W-202's promises: what a minimum guarantees. They are said of every list of calls from fresh, and of what its log shows. The last one, on what a class learns, is `Noninterference` (crate `noninterference`).
 use mathlib.Core.Path.{_≡_}
 use mathlib.Core.Bool.{Bool, true, false, _&&_}
 use mathlib.Core.List.{List, [], _∷_, _++_}
@@ -21,7 +21,7 @@ use Rattle.rules.specs.Calls.{lineOf, answerTo, stateAfter, logOf}
 abbrev pub ticksIn : Policy → List ℕ → ℕ
 ticksIn p ws = stateAfter p (freshState p) ws .cycle
 
--- the state in which calls, from a state on, make tick number t; where they do not, the state after them
+-- the state in which calls, from a state on, make tick number t; where they do not, the state after them. (Of a list from fresh t is always below `ticksIn` here, so the tick is not refused.)
 unfoldable pub stateAtTick : Policy → State → List ℕ → ℕ → State
 stateAtTick p s [] t = s
 stateAtTick p s (w ∷ ws) t = elim (eqb w 0 && eqb (s .cycle) t) [ true ↦ s | false ↦ stateAtTick p (answerTo p s w .state) ws t ]
@@ -77,12 +77,13 @@ pub record ActivatedIn (p : Policy) (ws : List ℕ) (k w : ℕ) : Type 0 where
 
 -- ---- what is promised
 
--- "a turn of its own starts": class c owns turn number `turn`, one of so many from turn number k on, and its head at the start of k has not gone before
+-- "a turn of its own starts": class c owns turn number `turn`, one of so many from turn number k on and the first of its own among them, and its head at the start of k is its head still
 pub record OwnTurn (p : Policy) (ws : List ℕ) (k many c : ℕ) : Type 0 where
   pub turn : ℕ
   pub not-before : k ≤ turn
   pub within : turn < k + many
   pub own : owns p ws c turn ≡ true
+  pub first : (j : ℕ) → k ≤ j → j < turn → owns p ws c j ≡ false
   pub waits : Waits p ws turn c
   pub same-head : headAt p ws turn c ≡ headAt p ws k c
 
@@ -90,9 +91,10 @@ pub record OwnTurn (p : Policy) (ws : List ℕ) (k many c : ℕ) : Type 0 where
 pub record Guarantees (p : Policy) : Type 0 where
   -- what is said of ticks is said of the list and its log
   pub ticks : (ws : List ℕ) (t : ℕ) → t < ticksIn p ws → TickMade p ws t
-  -- "A class with a request waiting at all its home turns owns at least its minimum in that epoch": the epoch's last turn, and so each of its turns, has started
-  pub at-least-its-minimum : (ws : List ℕ) (e c : ℕ) → isClass p c ≡ true → Started p ws (e * p .epoch + (p .epoch - 1))
-      → ((j : ℕ) → j < p .epoch → homeTurn p (e * p .epoch + j) ≡ true → homeClass p (e * p .epoch + j) ≡ c → Waits p ws (e * p .epoch + j) c)
+  -- "A class with a request waiting at all its home turns owns at least its minimum in that epoch": its home turns have started; the rest of the epoch need not
+  pub at-least-its-minimum : (ws : List ℕ) (e c : ℕ) → isClass p c ≡ true
+      → ((j : ℕ) → j < p .epoch → homeTurn p (e * p .epoch + j) ≡ true → homeClass p (e * p .epoch + j) ≡ c
+      → Started p ws (e * p .epoch + j) × Waits p ws (e * p .epoch + j) c)
       → minimum p c ≤ ownedIn p ws e c
   -- "every class owns at most its cap"
   pub at-most-its-cap : (ws : List ℕ) (e c : ℕ) → isClass p c ≡ true → ownedIn p ws e c ≤ cap p c
@@ -104,7 +106,7 @@ pub record Guarantees (p : Policy) : Type 0 where
   pub head-goes : (ws : List ℕ) (k c : ℕ) → 2 * p .timing .dead ≤ p .timing .turn → owns p ws c k ≡ true → Waits p ws k c → Ended p ws k
       → ActivatedIn p ws k (headAt p ws k c)
 
--- What the plan of home turns comes to for the turns left. A class can be tried only in turns whose first class may flow to it, and these are no more than its cap: so, from fresh, turns left turn no class away.
+-- What the plan of home turns comes to for the turns left. A class can be tried only in turns whose first class may flow to it, and these are, in an epoch, no more than its cap: so, from fresh, turns left turn no class away.
 pub record CapsSuffice (p : Policy) : Type 0 where
   -- as a turn starts, each class that its traversal can come to has a turn left
   pub some-left : (ws : List ℕ) (k c : ℕ) → Started p ws k → flows p (firstClass p k) c ≡ true

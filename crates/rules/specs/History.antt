@@ -58,7 +58,7 @@ pub record Held (p : Policy) (s : State) : Type 0 where
   pub ranges : inRange p s ≡ true
   -- what is in flight may flow to the owner
   pub flowing : InFlight (λ d w. flows p (classOf w) (s .turns .owner) ≡ true) (s .cycle) (s .flight)
-  -- an elided turn has begun, and its lookahead still holds as it stands
+  -- an elided turn has begun, and what elided it still holds as it stands
   pub begun : s .turns .elided ≡ true → 1 ≤ s .cycle
   pub stands : s .turns .elided ≡ true → elides p (turnBefore p (s .cycle)) (s .turns .left) (s .turns .pointers) (s .turns .owner) ≡ true
   -- a kept dead time: when the next turn starts nothing is in flight any more, and every gap is met, since none is longer than the dead time

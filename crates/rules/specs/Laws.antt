@@ -27,7 +27,7 @@ abbrev pub Ascends : Policy → Type 0
 Ascends p =
     (bound : ℕ) (lengths left pointers : List ℕ) (c : ℕ) → isClass p c ≡ true → flows p c (tryClass bound (candidates (p .covers) lengths left) pointers c .owner) ≡ true
 
--- the elision lemma: if the lookahead of turn k reached its owner, then, whatever waits when turn k + 1 starts, the owner of that is one to which the owner of k may flow
+-- the elision lemma: if the dead time of turn k is elided, then, whatever waits when turn k + 1 starts, the owner of that is one to which the owner of k may flow
 abbrev pub Elision : Policy → Type 0
 Elision p =
     (k : ℕ) (left pointers : List ℕ) (owner : ℕ) → isClass p owner ≡ true → elides p k left pointers owner ≡ true → (lengths : List ℕ)

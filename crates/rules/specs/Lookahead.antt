@@ -1,4 +1,4 @@
--- The lookahead (document 01: the trial walk) decides whether the owner's dead time is elided (document 01: dropped).
+-- When the owner's dead time is elided (document 01: dropped): before a home turn (W-202) by that turn's class, before another by the lookahead (document 01: the trial walk).
 use mathlib.Core.Bool.{Bool, true, false, cond, _&&_}
 use mathlib.Core.List.{List}
 use Prim.Native.Nat.{ℕ, zero, suc, _+_, _%_}

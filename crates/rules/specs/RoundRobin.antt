@@ -1,4 +1,4 @@
--- W-201's promises: of the turns that a class passes on, each of its children is named in turn; and "The trial walk follows."
+-- W-201's promises: of the turns that a class passes on, each of its children is named in turn; and "The trial walk follows." And what W-202 says of a turn's start.
 use mathlib.Core.Path.{_≡_}
 use mathlib.Core.Logic.{_⊎_}
 use mathlib.Core.Bool.{Bool, true, false, cond, _&&_, _||_}
@@ -16,7 +16,7 @@ use Rattle.state.specs.Fresh.{freshState}
 use Rattle.state.specs.Range.{inRange}
 use Rattle.state.specs.declared.State.{State}
 use Rattle.state.specs.declared.Turns.{Turns}
-use Rattle.rules.specs.Traversal.{firstClass, Candidates, candidates, movedPointer, passedAt, named, takes, tryClass, leftTried}
+use Rattle.rules.specs.Traversal.{firstClass, Candidates, candidates, movedPointer, passedAt, named, takes, tryClass, charge, takesHome, leftTried}
 use Rattle.rules.specs.Step.{turnStarts, turnNumber, leftAtStart, turnWord}
 use Rattle.rules.specs.Calls.{answerTo, stateAfter}
 
@@ -130,3 +130,14 @@ pub record TrialFollows (p : Policy) : Type 0 where
   -- W-202: "before a home turn the dead time is dropped if and only if the owner may flow to the home class"
   pub before-home : (s : State) → inRange p s ≡ true → tickStarts p s ≡ true → homeTurn p (nextTurn p s) ≡ true
       → turnsAfter p s .elided ≡ flows p (turnsAfter p s .owner) (homeClass p (nextTurn p s))
+
+-- ---- W-202: home turns
+
+-- of every policy in range and every turn's start
+pub record HomeTurns (p : Policy) : Type 0 where
+  -- a home turn's class "takes it if a request waits, turns left or not, and is not charged"
+  pub taken : (s : State) → inRange p s ≡ true → tickStarts p s ≡ true → takesHome p (turnNumber p (s .cycle)) (s .queues .lengths) ≡ true
+      → Shows p s (homeClass p (turnNumber p (s .cycle))) × (turnsAfter p s .left ≡ leftAtStart p (turnNumber p (s .cycle)) (s .turns .left))
+  -- "otherwise the walk ascends as usual and charges. An idle home class with nothing above it owns the turn and is charged.": in this and every other turn the owner is charged
+  pub charged : (s : State) → inRange p s ≡ true → tickStarts p s ≡ true → takesHome p (turnNumber p (s .cycle)) (s .queues .lengths) ≡ false
+      → turnsAfter p s .left ≡ charge (leftAtStart p (turnNumber p (s .cycle)) (s .turns .left)) (turnsAfter p s .owner)

@@ -41,7 +41,7 @@ pub record TurnStart : Type 0 where
   pub turns : Turns
   pub shown : ℕ
 
--- "Then the walk picks the owner." It is charged, and it is decided whether its dead time is elided.
+-- "Then the walk picks the owner." It is charged, unless it takes its home turn, and it is decided whether its dead time is elided.
 unfoldable pub ownedBy : Policy → ℕ → List ℕ → List ℕ → Reached → TurnStart
 ownedBy p k lengths left reached =
     let after = charged p k lengths left (reached .owner) in

@@ -1,4 +1,4 @@
-// The lookahead: whether the owner's dead time is elided. Document 01: the trial walk.
+// The lookahead: whether the owner's dead time is elided, before a turn that is no home turn. Document 01: the trial walk.
 
 ghost use mathlib.Core.Path.{_≡_};
 ghost use Prim.Native.Nat.{_<_};

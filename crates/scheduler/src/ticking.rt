@@ -45,7 +45,7 @@ pub struct Called {
     pub turn: u32,
 }
 
-// How many turns of an epoch come before its home turns: what the least class's cap has above its minimum.
+// How many turns of an epoch come before its home turns: what the least class's cap has above its minimum, so that nothing is added up.
 fn free_turns(p: Policy, bottom: usize) -> u32
     requires { ⌜ (inRange p ≡ true) × (bottom ≡ least p) ⌝ }
     ensures { λ r. ⌜ r ≡ freeTurns (p .epoch) (p .minimums) ⌝ }

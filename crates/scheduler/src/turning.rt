@@ -1,5 +1,5 @@
 // A turn's start, in place: the turns left at an epoch's start, where the traversal starts, the traversal, the charge, and whether the dead time is elided. The policy's
-// arrays are lent beside the policy, so that none is copied where a turn starts; its minimums are read only for a home turn.
+// arrays are lent beside the policy, so that none is copied where a turn starts. An index into its minimums copies them, so they are read only for a home turn.
 
 ghost use mathlib.Core.Path.{_≡_};
 ghost use mathlib.Core.Bool.{true, cond, not, _&&_};
@@ -34,20 +34,20 @@ pub struct Owned {
     pub shown: u32,
 }
 
-// The class where the traversal of a turn starts: a home turn's, which only then is looked for by the minimums, and otherwise the least.
+// The class where the traversal of a turn starts: a home turn's, or the least. The epoch's free turns come first, so most turns need not look at the minimums.
 fn first_class(p: Policy, bottom: usize, free: u32, number: u32) -> First
     requires { ⌜ (inRange p ≡ true) × (bottom ≡ least p) × (free ≡ freeTurns (p .epoch) (p .minimums)) ⌝ }
     ensures { λ r. ⌜ r ≡ record { class = firstClass p number; home = homeTurn p number } ⌝ }
 {
-    let turn = number % p.epoch;
-    if turn < free {
+    let place = number % p.epoch;
+    if place < free {
         return First {
             class: bottom,
             home: false,
         };
     }
     let minimums = p.minimums;
-    let class = turns::home_at(minimums, turn - free);
+    let class = turns::home_at(minimums, place - free);
     First { class, home: true }
 }
 

@@ -8,9 +8,12 @@ use lib.ListN.{getD}
 use Rattle.basics.specs.Below.{first, sum}
 use Rattle.order.specs.Order.{isClassIn, strictlyIn}
 
--- the sum of all minimums
+-- the sum of the minimums of the classes below a number, and of all
+unfoldable pub minimumsBelow : List ℕ → ℕ → ℕ
+minimumsBelow minimums c = sum c (λ i. getD minimums i 0)
+
 unfoldable pub minimumsSum : List ℕ → ℕ
-minimumsSum minimums = sum 16 (λ i. getD minimums i 0)
+minimumsSum minimums = minimumsBelow minimums 16
 
 -- 7: "E or the sum of minimums out of range"
 unfoldable pub turnsSound : ℕ → List ℕ → Bool
@@ -37,10 +40,6 @@ homeTurnIn epoch minimums k = leb (freeTurns epoch minimums) (k % epoch)
 -- its place among the home turns of its epoch, counted from 0
 unfoldable pub homePlace : ℕ → List ℕ → ℕ → ℕ
 homePlace epoch minimums k = k % epoch - freeTurns epoch minimums
-
--- the sum of the minimums of the classes below a number
-unfoldable pub minimumsBelow : List ℕ → ℕ → ℕ
-minimumsBelow minimums c = sum c (λ i. getD minimums i 0)
 
 -- "class by class in rising number, each as often as its minimum": the class of the home turn with this place, the first that has used up its minimum only past it; 16, which is no class, where there are
 -- not so many

@@ -43,8 +43,7 @@ use Rattle.requests.specs.declared.Call.the-variants.{Tick, Offer, Malformed}
 use Rattle.rules.proofs.Traversal.{traverse, falls, climbs, first-class, ascends}
 use Rattle.rules.proofs.Lookahead.{elides-home, elides-other, reach-here}
 use Rattle.rules.proofs.Call.{offer-is}
-use Rattle.rules.proofs.Range.{in-range}
-use Rattle.rules.proofs.CallsKept.{fresh-ranged}
+use Rattle.rules.proofs.CallsKept.{fresh-fits}
 use Rattle.rules.proofs.Calls.{answered-in-range}
 
 -- ---- the definitions that are computed with: to unfold one of these is to unfold all that its line names
@@ -54,7 +53,7 @@ unfolding example policyOf listOf every some setOf sum member includes belowMask
 policy-computed p = p
 
 refusal-computed : Policy → ℕ
-unfolding policy-computed rowFits rowsFit antisymmetricAt antisymmetric transitiveAt transitive hasLeast leastAt minimumsSum turnsSound within gapsWithin bankWithin timingSound firstFailing policyTests refusal
+unfolding policy-computed rowFits rowsFit antisymmetricAt antisymmetric transitiveAt transitive hasLeast leastAt minimumsSum minimumsBelow turnsSound within gapsWithin bankWithin timingSound firstFailing policyTests refusal
 refusal-computed p = refusal p
 
 range-computed : Policy → Bool
@@ -98,7 +97,7 @@ log-computed p ws = plain-log p (freshState p) ws
 -- every state reached from the fresh one of a policy in range is in range
 from-fresh : (p : Policy) → inRange p ≡ true → (ws : List ℕ) → logFrom p ws ≡ log-computed p ws
 unfolding logFrom log-computed
-from-fresh p given ws = plain-right p (freshState p) ws (in-range p (freshState p) (fresh-ranged p given))
+from-fresh p given ws = plain-right p (freshState p) ws (fresh-fits p given)
 
 turns-computed : Policy → List ℕ → List ℕ
 unfolding log-computed turnsIn

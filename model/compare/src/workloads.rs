@@ -29,7 +29,17 @@ pub fn main_workloads(length: usize) -> Vec<Workload> {
         idle("idle ticks, a diamond", diamond(), length),
         saturated("one class, saturated", single(TIMING), length),
         saturated("chain of 16, saturated", chain(TIMING), length),
-        saturated("antichain of 15 over one, saturated", antichain(), length),
+        idle("chain of 16, idle", chain(TIMING), length),
+        saturated(
+            "antichain of 15 over one, saturated",
+            antichain(ONE_BUT_OF_THE_LEAST),
+            length,
+        ),
+        idle(
+            "antichain of 15 over one, idle",
+            antichain(NO_MINIMUMS),
+            length,
+        ),
         mix("mix with refusals, a diamond", diamond(), length),
     ]
 }
@@ -58,25 +68,31 @@ fn diamond() -> PolicyFields {
     PolicyFields::new(&[0b1111, 0b1010, 0b1100, 0b1000], 8, &[1, 2, 2, 1], TIMING)
 }
 
-/// All sixteen in a row, each but the least with a home turn: every class owns one
-/// turn of an epoch, and where nobody waits, walks to the top start at every height.
+/// All sixteen in a row, each but the least with a home turn, so that a walk of each
+/// epoch starts at every height. Saturated, each class takes the turn that starts at it
+/// and no walk ascends; idle, every walk goes to the top.
 fn chain(timing: [u8; 10]) -> PolicyFields {
     let rows: Vec<u16> = (0..MOST_CLASSES).map(|class| 0xFFFF << class).collect();
     PolicyFields::new(&rows, 16, &ONE_BUT_OF_THE_LEAST, timing)
 }
 
-/// Minimums that leave class 0 one turn of sixteen, and each other class its own.
+/// Minimums of an epoch of sixteen turns, of which the first starts at class 0 and each
+/// other is another class's home turn.
 const ONE_BUT_OF_THE_LEAST: [u8; MOST_CLASSES] = {
     let mut minimums = [1; MOST_CLASSES];
     minimums[0] = 0;
     minimums
 };
 
-/// Class 0 below fifteen that are incomparable, each with a home turn.
-fn antichain() -> PolicyFields {
+/// Minimums with which every turn starts at class 0.
+const NO_MINIMUMS: [u8; MOST_CLASSES] = [0; MOST_CLASSES];
+
+/// Class 0 below fifteen that are incomparable. Saturated, no walk ascends; idle, every
+/// walk from class 0 goes to the next of its fifteen children.
+fn antichain(minimums: [u8; MOST_CLASSES]) -> PolicyFields {
     let mut rows: Vec<u16> = (0..MOST_CLASSES).map(|class| 1 << class).collect();
     rows[0] = 0xFFFF;
-    PolicyFields::new(&rows, 16, &ONE_BUT_OF_THE_LEAST, TIMING)
+    PolicyFields::new(&rows, 16, &minimums, TIMING)
 }
 
 fn accepted(fields: &PolicyFields) -> (Vec<u8>, Policy) {

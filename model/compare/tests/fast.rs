@@ -94,6 +94,29 @@ fn saturated_workloads_keep_every_queue_filled() {
 }
 
 #[test]
+fn idle_chains_ascend_from_every_height_and_idle_antichains_to_every_child() {
+    // Of one epoch the classes that walks start at, and of two the owners.
+    for (name, expected) in [
+        ("chain of 16, idle", [(0..16).collect(), vec![15; 32]]),
+        (
+            "antichain of 15 over one, idle",
+            [vec![0; 16], (1..16).chain(1..16).chain(1..3).collect()],
+        ),
+    ] {
+        let mut workloads = workloads::main_workloads(2 * 16 * 16).into_iter();
+        let workload = workloads.find(|workload| workload.name == name);
+        let workload = workload.expect(name);
+        let policy = accepted(&workload.policy);
+        let first = |turn: u32| policy.home(turn).unwrap_or(policy.least());
+        let log = model_log(&workload.policy, &workload.trace).expect(name);
+        let turns = log.chunks_exact(LINE).map(|line| line[3] as usize & 0xFF);
+        let owners = turns.filter(|&turn| turn != 0).map(|turn| turn - 1);
+        let found = [(0..16).map(first).collect(), owners.collect::<Vec<_>>()];
+        assert_eq!(found, expected, "{name}");
+    }
+}
+
+#[test]
 fn the_mix_is_refused_in_every_way() {
     let mut workloads = workloads::main_workloads(50_000).into_iter();
     let mix = workloads.find(|workload| workload.name.contains("refusals"));

@@ -16,7 +16,7 @@ def run(arguments):
     out = extract_of(library, ran, number)
     if arguments.words:
         for call in calls_of(purge(ran.trace, ran.policy, number), out):
-            print(call_words(call, ran.names))
+            print(call_words(call, ran.names, ran.policy))
         return
     print(HEADER)
     for place in range(0, len(out), 4):

@@ -108,7 +108,8 @@ def add(commands):
     part = parts.add_parser(
         "show",
         help="takes a policy file apart byte by byte, a refused one too",
-        description="Shows each byte of a policy file (or of the file that a text makes): its value, what is allowed, and whether it is at fault; then the proved reader's answer.",
+        description="Shows each byte of a policy file (or of the file that a text makes): its value, what is allowed, and whether it is at fault;\n"
+        "then the proved reader's answer, and the home turns.",
         epilog="example:\n  vig policy show examples/refused/policy.bin\n  vig policy show examples/diamond/policy.bin --svg > order.svg",
     )
     part.add_argument("file", metavar="F", help="a policy.bin, or any file; a .toml is a policy text")

@@ -43,7 +43,7 @@ def add(commands):
     command = commands.add_parser(
         "report",
         help="what each class got and waited for",
-        description="Runs the traces of folders and prints for each class its offers, answers, waits in cycles, turns, activates,\n"
+        description="Runs the traces of folders and prints for each class its offers, answers, waits in cycles, turns, home turns, activates,\n"
         "and its turns in an epoch against minimum and cap.",
         epilog="examples:\n  vig report examples/two-tenants-busy\n  vig report examples/two-tenants examples/two-tenants-busy --csv figures.csv",
     )

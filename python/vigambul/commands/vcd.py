@@ -32,7 +32,7 @@ def add(commands):
     command = commands.add_parser(
         "vcd",
         help="a run as a waveform",
-        description="Runs a folder's trace and writes what happened as a waveform (VCD): owner, dead time, command, answer, queue lengths and turns left by class name.\n"
+        description="Runs a folder's trace and writes what happened as a waveform (VCD): owner, home turn, dead time, command, answer, queue lengths and turns left by class name.\n"
         "A save file for GTKWave, with the ending .gtkw, is written beside it.",
         epilog="example:\n  vig vcd examples/diamond -o diamond.vcd\n  gtkwave diamond.vcd diamond.gtkw",
     )

@@ -7,7 +7,7 @@ use borrow.Author.Needs.{needs}
 use mir.Syntax.{w32}
 use mir.Val.{Fits}
 use lib.ListN.{getD}
-use Rattle.turns.specs.Turns.{minimumsSum}
+use Rattle.turns.specs.Turns.{minimumsSum, minimumsBelow}
 use Rattle.basics.proofs.Loops.{Summed, summed-none, summed-more, summed-all}
 use Rattle.turns.proofs.minimums_sum.Statement.{statement}
 use Rattle.turns.proofs.minimums_sum.Tie as tie
@@ -48,7 +48,7 @@ loop-again c =
     (summed-more _ 16 (at .loop .total) (at .loop .i) (at .loop .inv .0) (search needs) refl, omega arith)
 
 returns : tie.Need-returns Inv-loop μ-loop
-unfolding minimumsSum
+unfolding minimumsSum minimumsBelow
 returns c = let at = c .before in summed-all _ 16 (at .loop .total) (at .loop .i) (at .loop .inv .0) (c .loop-test .left)
 
 pub minimums-sum-spec : {M : Type 1} → statement M

@@ -51,7 +51,7 @@ same-reaches c left =
     let s = c .before .before in
     let lent = s .pre .0 in
     ap₂ (λ (rows covers : List ℕ). reaches 16 (lookingAhead rows covers left (s .args .pointers .now)) (s .args .owner) (c .before .first-class .result .class)) (lent .rows-are) (lent .covers-are)
-    ∙ ap (reaches 16 (lookingAhead (s .args .p .rows) (s .args .p .covers) left (s .args .pointers .now)) (s .args .owner)) (starts-at (c .before) ∙ first-least (s .args .p) (lent .fit) (s .args .number + 1) (other c))
+    ∙ ap (reaches 16 (lookingAhead (s .args .p .rows) (s .args .p .covers) left (s .args .pointers .now)) (s .args .owner)) (starts-at (c .before) ∙ first-least (s .args .p) (s .args .number + 1) (other c))
 
 -- the definition there, by the turns left that it picks
 picked : (c : tie.Else1) (b : Bool) → eqb ((c .before .before .args .number + 1) % c .before .before .args .p .epoch) 0 ≡ b → elides (c .before .before .args .p) (c .before .before .args .number) (c .before .before .args .left .now) (c .before .before .args .pointers .now) (c .before .before .args .owner) ≡ own-reaches (c .before .before) (cond b (c .before .before .args .p .caps) (c .before .before .args .left .now))
@@ -91,7 +91,7 @@ returns c =
     let s = at .before .before in
     let p = s .args .p in
     let owner = s .args .owner in
-    let then : at .before .first-class .result .class ≡ homeClass p (s .args .number + 1) = starts-at (at .before) ∙ first-home p (s .pre .0 .fit) (s .args .number + 1) (home at) in
+    let then : at .before .first-class .result .class ≡ homeClass p (s .args .number + 1) = starts-at (at .before) ∙ first-home p (s .args .number + 1) (home at) in
     c .has .ensures
     ∙ ap₂ (λ (rows : List ℕ) (class : ℕ). member (getD rows owner 0) class) (s .pre .0 .rows-are) then
     ∙ sym (elides-home p (s .args .number) (s .args .left .now) (s .args .pointers .now) owner (home at))

@@ -36,13 +36,13 @@ home c =
 
 -- ----
 
-rem-turn : tie.Need-rem-turn
-rem-turn c = let s = c .before in omega (arith, policy-laws (s .args .p) (s .pre .0) .capped .epoch-bounds .0)
+rem-place : tie.Need-rem-place
+rem-place c = let s = c .before in omega (arith, policy-laws (s .args .p) (s .pre .0) .capped .epoch-bounds .0)
 
 returns : tie.Need-returns
 returns c =
     let s = c .before .before in
-    ap₂ made (s .pre .1 ∙ sym (first-least (s .args .p) (s .pre .0) (s .args .number) (other c))) (sym (other c))
+    ap₂ made (s .pre .1 ∙ sym (first-least (s .args .p) (s .args .number) (other c))) (sym (other c))
 
 home-at-requires : tie.Need-home-at-requires
 home-at-requires c κs = search needs
@@ -55,7 +55,7 @@ returns-2 c =
     let p = s .args .p in
     let number = s .args .number in
     let class : c .home-at .result ≡ homeClass p number = c .home-at .ensures ∙ ap (λ (free : ℕ). homeAt (p .minimums) (number % p .epoch - free)) (s .pre .2) in
-    ap₂ made (class ∙ sym (first-home p (s .pre .0) number (home test))) (sym (home test))
+    ap₂ made (class ∙ sym (first-home p number (home test))) (sym (home test))
 
 pub first-class-spec : {M : Type 1} → statement M
-first-class-spec = tie.close (tie.spec rem-turn returns home-at-requires returns-2)
+first-class-spec = tie.close (tie.spec rem-place returns home-at-requires returns-2)

@@ -81,7 +81,7 @@ either-way s =
     let a = s .args in
     ⊎-elim
     (λ taken. rw taken (sym (home-takes (a .p) (s .pre .0 .fit) (a .number) (a .lengths .now) (full s) (full-long s) taken 16 (a .pointers .now))))
-    (λ idle. rw idle (sym (home-idle (a .p) (s .pre .0 .fit) (a .number) (a .lengths .now) (full s) idle 16 (a .pointers .now) (firstClass (a .p) (a .number)))))
+    (λ idle. rw idle (sym (home-idle (a .p) (a .number) (a .lengths .now) (full s) idle 16 (a .pointers .now) (firstClass (a .p) (a .number)))))
     (either (takesHome (a .p) (a .number) (a .lengths .now)))
 
 walked : (c : tie.After-owner-from) → reached c ≡ walk (at-start c)

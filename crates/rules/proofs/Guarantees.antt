@@ -13,7 +13,7 @@ use borrow.Author.Tests.{eqb-true, eqb-false, eq-eqb, lt-ltb}
 use lib.Arith.{lt-of-le-ne}
 use lib.Dec.{ltb, eqb}
 use lib.ListN.{getD}
-use Rattle.basics.specs.Below.{some, count}
+use Rattle.basics.specs.Below.{count}
 use Rattle.policy.specs.Laws.{TimingLaws}
 use Rattle.policy.specs.Policy.{isClass, flows, cap, minimum, homeTurn, homeClass, inRange as policyInRange}
 use Rattle.policy.specs.declared.Policy.{Policy}

@@ -11,7 +11,7 @@ use native.Mathlib.Omega.{arith}
 use borrow.Author.Tests.{eqb-true, eq-eqb, ne-eqb, ltb-true, lt-ltb}
 use lib.Dec.{ltb}
 use lib.ListN.{getD}
-use Rattle.basics.specs.Below.{some, count}
+use Rattle.basics.specs.Below.{count}
 use Rattle.turns.specs.Turns.{minimumsAbove}
 use Rattle.policy.specs.Policy.{isClass, flows, strictly, cap, minimum, homeTurn, homeClass, inRange as policyInRange}
 use Rattle.policy.specs.declared.Policy.{Policy}

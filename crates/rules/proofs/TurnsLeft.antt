@@ -11,7 +11,7 @@ use native.Mathlib.Omega.{arith}
 use borrow.Author.Tests.{eqb-true, eqb-false, eq-eqb, ne-eqb, ltb-true}
 use lib.Dec.{ltb, eqb}
 use lib.ListN.{length, getD, set}
-use Rattle.basics.specs.Below.{some, count}
+use Rattle.basics.specs.Below.{count}
 use Rattle.order.specs.Order.{flowsIn}
 use Rattle.turns.specs.Turns.{minimumsSum}
 use Rattle.policy.specs.Policy.{isClass, flows, least, cap, homeTurn, inRange as policyInRange}

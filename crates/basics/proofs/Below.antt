@@ -140,21 +140,6 @@ module _ (f : ℕ → Bool) where
   count-all-pass zero h = refl
   count-all-pass (suc n) h = rw (h n (le-refl (suc n))) (omega (arith, count-all-pass n (λ i l. h i (omega arith))))
 
-  -- more numbers, no fewer that pass
-  pub count-grows : (n : ℕ) → count n f ≤ count (n + 1) f
-  count-grows n = ⊎-elim (λ t. omega (arith, count-yes n t)) (λ t. omega (arith, count-no n t)) (either (f n))
-
-  pub count-up : (m n : ℕ) → count m f ≤ count (m + n) f
-  count-up m zero = omega (arith, ap (λ (k : ℕ). count k f) (add-zero m))
-  count-up m (suc n) =
-      let step : m + suc n ≡ m + n + 1 = omega arith in
-      rw step (omega (arith, count-up m n, count-grows (m + n)))
-
-  pub count-mono : (m n : ℕ) → m ≤ n → count m f ≤ count n f
-  count-mono m n h =
-      let rest : m + (n - m) ≡ n = omega arith in
-      subst (λ (k : ℕ). count m f ≤ count k f) rest (count-up m (n - m))
-
 -- where it passes somewhere, the first is below the bound, passes, and nothing before it does
 pub record First (f : ℕ → Bool) (n i : ℕ) : Type 0 where
   pub below : i < n
@@ -292,6 +277,10 @@ pub sum-mono : (g : ℕ → ℕ) (m n : ℕ) → m ≤ n → sum m g ≤ sum n g
 sum-mono g m n l =
     let rest : m + (n - m) ≡ n = omega arith in
     subst (λ (k : ℕ). sum m g ≤ sum k g) rest (omega (arith, sum-split g m (n - m)))
+
+pub count-mono : (f : ℕ → Bool) (m n : ℕ) → m ≤ n → count m f ≤ count n f
+unfolding count
+count-mono f = sum-mono (λ i. cond (f i) 1 0)
 
 -- one number
 pub count-one : (f : ℕ → Bool) → count 1 f ≡ cond (f 0) 1 0

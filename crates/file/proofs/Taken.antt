@@ -16,7 +16,7 @@ use Rattle.masks.specs.Mask.{member}
 use Rattle.order.specs.Order.{isClassIn, flowsIn, rowsFit, antisymmetric, transitive, hasLeast, coverSet}
 use Rattle.turns.specs.Turns.{minimumsSum, turnsSound, capIn, minimumsBelow}
 use Rattle.timing.specs.Timing.{within, gapsWithin, bankWithin, timingSound}
-use Rattle.policy.specs.Policy.{isClass, coversOf, cap, firstFailing, policyTests, refusal, shaped, storedFits, allStoredFits, inRange}
+use Rattle.policy.specs.Policy.{isClass, coversOf, cap, firstFailing, policyTests, refusal, shaped, storedFits, allStoredFits, inRange, minimum}
 use Rattle.file.specs.File.{byte, word, kind, start, bodySize, kindsFit, bodiesAbut, contentsFit, classCount, lengthsFit, rowAt, epochOf, minimumAt, timingOf, held, fileTests, status, refusedWith, readFile}
 use Rattle.policy.specs.Laws.{TimingLaws}
 use Rattle.order.specs.Laws.{Reflexive, Antisymmetric, Transitive, Least, SmallClasses}
@@ -600,7 +600,7 @@ module _ (s : List ℕ) (given : Bytes s) (taken : status s ≡ 0) where
       (λ i l. lt-ltb (getD (listOf 16 (rowAt s)) i 0) 65536 (stored s given (form-said s (tests .0)) sizes .small i)))
 
   held-stored : allStoredFits (held s) ≡ true
-  unfolding allStoredFits storedFits coversOf cap isClass held classCount
+  unfolding allStoredFits storedFits coversOf cap isClass held classCount minimum
   held-stored =
       every-all (storedFits (held s)) 16
       (λ i l.

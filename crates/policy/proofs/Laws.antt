@@ -220,13 +220,13 @@ module _ (p : Policy) (given : inRange p ≡ true) where
   unfolding storedFits
   covers-stored i l =
       eqb-true (coversOf p i) (coverSet (p .rows) i)
-      (and-three (eqb (coversOf p i) (coverSet (p .rows) i)) (eqb (cap p i) (capIn (p .classes) (p .rows) (p .epoch) (p .minimums) i)) (isClass p i || eqb (getD (p .minimums) i 0) 0) (stored-at i l) .0)
+      (and-three (eqb (coversOf p i) (coverSet (p .rows) i)) (eqb (cap p i) (capIn (p .classes) (p .rows) (p .epoch) (p .minimums) i)) (isClass p i || eqb (minimum p i) 0) (stored-at i l) .0)
 
   caps-stored : (i : ℕ) → i < 16 → cap p i ≡ capIn (p .classes) (p .rows) (p .epoch) (p .minimums) i
   unfolding storedFits
   caps-stored i l =
       eqb-true (cap p i) (capIn (p .classes) (p .rows) (p .epoch) (p .minimums) i)
-      (and-three (eqb (coversOf p i) (coverSet (p .rows) i)) (eqb (cap p i) (capIn (p .classes) (p .rows) (p .epoch) (p .minimums) i)) (isClass p i || eqb (getD (p .minimums) i 0) 0) (stored-at i l) .1)
+      (and-three (eqb (coversOf p i) (coverSet (p .rows) i)) (eqb (cap p i) (capIn (p .classes) (p .rows) (p .epoch) (p .minimums) i)) (isClass p i || eqb (minimum p i) 0) (stored-at i l) .1)
 
   -- the stored covers have the members that the order's have
   member-covers : (i j : ℕ) → i < 16 → j < 16 → member (coversOf p i) j ≡ coversIn (p .rows) i j
@@ -387,10 +387,10 @@ module _ (p : Policy) (given : inRange p ≡ true) where
   -- ---- home turns
 
   no-minimum : (i : ℕ) → i < 16 → isClass p i ≡ false → minimum p i ≡ 0
-  unfolding storedFits minimum
+  unfolding storedFits
   no-minimum i l e =
-      let kept = and-right (eqb (coversOf p i) (coverSet (p .rows) i) && eqb (cap p i) (capIn (p .classes) (p .rows) (p .epoch) (p .minimums) i)) (isClass p i || eqb (getD (p .minimums) i 0) 0) (stored-at i l) in
-      eqb-true (getD (p .minimums) i 0) 0 (rw e at kept)
+      let kept = and-right (eqb (coversOf p i) (coverSet (p .rows) i) && eqb (cap p i) (capIn (p .classes) (p .rows) (p .epoch) (p .minimums) i)) (isClass p i || eqb (minimum p i) 0) (stored-at i l) in
+      eqb-true (minimum p i) 0 (rw e at kept)
 
 -- ---- the timing
 

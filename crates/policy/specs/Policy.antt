@@ -89,7 +89,7 @@ unfoldable pub storedFits : Policy → ℕ → Bool
 storedFits p i =
     eqb (coversOf p i) (coverSet (p .rows) i)
     && eqb (cap p i) (capIn (p .classes) (p .rows) (p .epoch) (p .minimums) i)
-    && (isClass p i || eqb (getD (p .minimums) i 0) 0)
+    && (isClass p i || eqb (minimum p i) 0)
 
 unfoldable pub allStoredFits : Policy → Bool
 allStoredFits p = every 16 (storedFits p)

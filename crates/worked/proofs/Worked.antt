@@ -16,7 +16,7 @@ use Rattle.masks.specs.Mask.{member, includes, size, nth, belowMask}
 use Rattle.order.specs.Order.{isClassIn, flowsIn, strictlyIn, rowFits, rowsFit, antisymmetricAt, antisymmetric, transitiveAt, transitive, hasLeast, leastAt, leastIn, betweenIn, coversIn, coverSet}
 use Rattle.turns.specs.Turns.{minimumsSum, turnsSound, minimumsAbove, capIn, freeTurns, homeTurnIn, homePlace, minimumsBelow, homeAt}
 use Rattle.timing.specs.Timing.{within, gapsWithin, bankWithin, timingSound}
-use Rattle.policy.specs.Policy.{isClass, flows, least, above, coversOf, cap, homeTurn, homeClass, firstFailing, policyTests, refusal, storedFits, allStoredFits, shaped, inRange}
+use Rattle.policy.specs.Policy.{isClass, flows, least, above, coversOf, cap, homeTurn, homeClass, firstFailing, policyTests, refusal, storedFits, allStoredFits, shaped, inRange, minimum}
 use Rattle.file.specs.File.{byte, word, kind, start, bodySize, kindsFit, bodiesAbut, contentsFit, classCount, lengthsFit, rowAt, epochOf, minimumAt, timingOf, held, noPolicy, fileTests, status, refusedWith, readFile}
 use Rattle.file.specs.Taken.{policyOf}
 use Rattle.policy.specs.declared.Policy.{Policy}
@@ -57,7 +57,7 @@ unfolding policy-computed rowFits rowsFit antisymmetricAt antisymmetric transiti
 refusal-computed p = refusal p
 
 range-computed : Policy → Bool
-unfolding refusal-computed coversOf cap isClass storedFits allStoredFits shaped inRange
+unfolding refusal-computed coversOf cap isClass storedFits minimum allStoredFits shaped inRange
 range-computed p = inRange p
 
 file-computed : List ℕ → Reading

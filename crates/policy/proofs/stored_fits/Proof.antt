@@ -1,7 +1,7 @@
 -- `policy::stored_fits` meets its contract: the definition, with what the callees promise.
 -- Assumes nothing.
 use borrow.Author.Needs.{needs}
-use Rattle.policy.specs.Policy.{storedFits, isClass}
+use Rattle.policy.specs.Policy.{storedFits, isClass, minimum}
 use Rattle.policy.proofs.stored_fits.Statement.{statement}
 use Rattle.policy.proofs.stored_fits.Tie as tie
 
@@ -24,7 +24,7 @@ number-of-requires : tie.Need-number-of-requires
 number-of-requires c κs = search needs
 
 returns : tie.Need-returns
-unfolding storedFits isClass
+unfolding storedFits minimum isClass
 returns c = cc
 
 pub stored-fits-spec : {M : Type 1} → statement M

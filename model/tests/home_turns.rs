@@ -191,13 +191,8 @@ fn a_home_class_moves_its_mark_where_it_passes_on_and_no_lower_one_does() {
 
 #[test]
 fn a_home_turn_does_not_return_to_its_class_whose_request_comes_after_the_start() {
-    let policy = policy(&CHAIN_OF_TWO, 1, &[1, 0], TIMING);
-    let list = [0, read_word(0, 1), 0, 0, 0, 0];
-    let log = run_fresh(&policy, &list);
-    let commands: Vec<u32> = log.chunks(4).map(|line| line[1]).collect();
-    assert_eq!(commands, [0, 0, 0, 0, 0, read_word(0, 1)]);
-    // Class 1 may not flow to class 0, whose home turn comes next.
-    assert_eq!(turns(&log), [2, 0x101]);
+    // Class 1 may not flow to class 0, whose home turn comes next, so it keeps its dead time.
+    check_late_request(&policy(&CHAIN_OF_TWO, 1, &[1, 0], TIMING));
 }
 
 // ---------------------------------------------------------------------------

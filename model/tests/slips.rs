@@ -23,13 +23,7 @@ fn a_higher_class_is_not_asked_first() {
 
 #[test]
 fn a_turn_does_not_return_to_a_class_whose_request_comes_after_the_start() {
-    let policy = policy(&CHAIN_OF_TWO, 64, &[0, 0], TIMING);
-    // The offer comes between tick 0 and tick 1 of an idle turn of class 1.
-    let list = [0, read_word(0, 1), 0, 0, 0, 0];
-    let log = run_fresh(&policy, &list);
-    let commands: Vec<u32> = log.chunks(4).map(|line| line[1]).collect();
-    assert_eq!(commands, [0, 0, 0, 0, 0, read_word(0, 1)]);
-    assert_eq!(turns(&log), [2, 0x101]);
+    check_late_request(&policy(&CHAIN_OF_TWO, 64, &[0, 0], TIMING));
 }
 
 #[test]

@@ -258,3 +258,12 @@ pub const OUT_OF_RANGE: [Change; 33] = [
         state.responses[1].due = 9
     }),
 ];
+
+/// Of two classes in a row with turns of 4: a request of class 0 that comes between the first and the
+/// second tick of an idle turn of class 1 goes out in the next turn, and class 1 keeps its dead time.
+pub fn check_late_request(policy: &Policy) {
+    let log = run_fresh(policy, &[0, read_word(0, 1), 0, 0, 0, 0]);
+    let commands: Vec<u32> = log.chunks(4).map(|line| line[1]).collect();
+    assert_eq!(commands, [0, 0, 0, 0, 0, read_word(0, 1)]);
+    assert_eq!(turns(&log), [2, 0x101]);
+}

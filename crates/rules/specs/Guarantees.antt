@@ -21,7 +21,7 @@ use Rattle.rules.specs.Calls.{lineOf, answerTo, stateAfter, logOf}
 abbrev pub ticksIn : Policy → List ℕ → ℕ
 ticksIn p ws = stateAfter p (freshState p) ws .cycle
 
--- the state in which calls, from a state on, make tick number t; where they do not, the state after them. (Of a list from fresh t is always below `ticksIn` here, so the tick is not refused.)
+-- the state in which calls, from a state on, make tick number t; where they do not, the state after them. (A tick that is refused would count here; what is promised below is said of numbers below `ticksIn`, and there none is.)
 unfoldable pub stateAtTick : Policy → State → List ℕ → ℕ → State
 stateAtTick p s [] t = s
 stateAtTick p s (w ∷ ws) t = elim (eqb w 0 && eqb (s .cycle) t) [ true ↦ s | false ↦ stateAtTick p (answerTo p s w .state) ws t ]

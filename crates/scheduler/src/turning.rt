@@ -34,7 +34,7 @@ pub struct Owned {
     pub shown: u32,
 }
 
-// The class where the traversal of a turn starts: a home turn's, or the least. The epoch's free turns come first, so most turns need not look at the minimums.
+// The class where the traversal of a turn starts: a home turn's, or the least. A turn before the epoch's home turns need not look at the minimums.
 fn first_class(p: Policy, bottom: usize, free: u32, number: u32) -> First
     requires { ⌜ (inRange p ≡ true) × (bottom ≡ least p) × (free ≡ freeTurns (p .epoch) (p .minimums)) ⌝ }
     ensures { λ r. ⌜ r ≡ record { class = firstClass p number; home = homeTurn p number } ⌝ }

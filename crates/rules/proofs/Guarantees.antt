@@ -15,11 +15,12 @@ use lib.Dec.{ltb, eqb}
 use lib.ListN.{getD}
 use Rattle.basics.specs.Below.{count}
 use Rattle.policy.specs.Laws.{TimingLaws}
-use Rattle.policy.specs.Policy.{isClass, flows, cap, minimum, homeTurn, homeClass, inRange as policyInRange}
+use Rattle.policy.specs.Policy.{isClass, flows, strictly, least, cap, minimum, homeTurn, homeClass, inRange as policyInRange}
 use Rattle.policy.specs.declared.Policy.{Policy}
 use Rattle.basics.proofs.Truth.{either, false-unless, and-left, and-right, and-both, or-right}
 use Rattle.basics.proofs.Stores.{stored-at}
-use Rattle.basics.proofs.Below.{count-under}
+use Rattle.basics.proofs.Below.{count-under, count-cover}
+use Rattle.order.proofs.Orders.{apart-strictly}
 use Rattle.policy.proofs.Laws.{policy-laws}
 use Rattle.requests.specs.Word.{kindOf, bankOf, commandNumber}
 use Rattle.requests.proofs.Word.{word-back}
@@ -37,6 +38,7 @@ use Rattle.rules.specs.History.{Activates}
 use Rattle.rules.specs.Call.{busAt, afterTick}
 use Rattle.rules.specs.Calls.{Answer, lineOf, answerTo, logOf}
 use Rattle.rules.specs.Guarantees.{ticksIn, atTick, TickMade, firstTick, Started, Ended, Waits, headAt, owns, ownedIn, ActivatedIn, OwnTurn, Guarantees}
+use Rattle.rules.proofs.Traversal.{first-least}
 use Rattle.rules.proofs.Wire.{gap-shift, kind-small}
 use Rattle.rules.proofs.PendingWords.{inside}
 use Rattle.rules.proofs.Step.{drive-column, drive-nothing, drive-activate}
@@ -44,6 +46,7 @@ use Rattle.rules.proofs.Range.{FlightRange, ranged, BusRange, bus-range
 use Rattle.rules.proofs.Calls.{cut-log}
 use Rattle.rules.proofs.ListTicks.{Grown}
 use Rattle.rules.proofs.ListTurns as list
+use Rattle.rules.proofs.TurnsLeft.{caps-suffice}
 
 module _ (p : Policy) (given : policyInRange p ≡ true) where
   abbrev turn : ℕ
@@ -84,6 +87,39 @@ module _ (p : Policy) (given : policyInRange p ≡ true) where
           (count-under (λ j. owns p ws c (turn-of j)) (λ j. list.comes p given c (turn-of j)) (p .epoch)
           (λ j l own. subst (λ (x : ℕ). flows p (firstClass p (turn-of j)) x ≡ true) (list.owned p given ws (turn-of j) c own) (list.from-first p given ws (turn-of j))))
           (list.few-come p given e c class)
+
+    -- W-209: exactly its cap, of the least class. The E - S turns that are no home turns start at the least class and are its, as it has a turn left: its cap is E less the other minimums, so at least E - S, and it is charged for these
+    -- turns alone. Of the home turns its own are its. That is E - S plus its minimum, which is its cap: every turn of the epoch is its or a home turn of a class above.
+    module _ (e : ℕ) (waits : (j : ℕ) → j < p .epoch → Started p ws (e * p .epoch + j) × Waits p ws (e * p .epoch + j) (least p)) where
+      its-or-higher : (j : ℕ) → j < p .epoch → (owns p ws (least p) (e * p .epoch + j) ≡ true) ⊎ (list.higher-home p given (least p) j ≡ true)
+      unfolding strictly flows
+      its-or-higher j l =
+          let laws = policy-laws p given in
+          let c = least p in
+          let k = e * p .epoch + j in
+          let there = waits j l in
+          let plan = list.in-epoch p given e j in
+          ⊎-elim
+          (λ home.
+          ⊎-elim
+          (λ same.
+          let its : homeClass p k ≡ c = plan .1 ∙ sym (eqb-true c (homeClass p j) same) in
+          inl (list.owning p given ws k c (there .0) (list.owns-home p given ws k (there .0) (plan .0 ∙ home) (subst (Waits p ws k) (sym its) (there .1)) ∙ its)))
+          (λ apart.
+          inr (and-both home (apart-strictly (p .rows) c (homeClass p j) (laws .lowest .is-least (homeClass p j) (laws .homes .of-class j home)) (eqb-false c (homeClass p j) apart))))
+          (either (eqb c (homeClass p j))))
+          (λ other.
+          let free = plan .0 ∙ other in
+          let tried : flows p (firstClass p k) c ≡ true = subst (λ (x : ℕ). flows p x c ≡ true) (sym (first-least p k free)) (laws .order .reflexive c (laws .lowest .is-class)) in
+          inl (list.owning p given ws k c (there .0) (list.owns-other p given ws k free (there .1) (caps-suffice p given .some-left ws k c (there .0) tried))))
+          (either (homeTurn p j))
+
+      exactly : ownedIn p ws e (least p) ≡ cap p (least p)
+      unfolding ownedIn
+      exactly =
+          let class = policy-laws p given .lowest .is-class in
+          let all = count-cover (λ j. owns p ws (least p) (e * p .epoch + j)) (list.higher-home p given (least p)) (p .epoch) its-or-higher in
+          omega (arith, all, list.all-but-higher p given (least p) class, at-most e (least p) class)
 
     -- ---- a turn of its own
 
@@ -335,6 +371,7 @@ module _ (p : Policy) (given : policyInRange p ≡ true) where
         ticks = tick-made;
         at-least-its-minimum = at-least;
         at-most-its-cap = at-most;
+        exactly-its-cap = exactly;
         within-an-epoch = within;
         head-goes = λ ws k c twice own waits ended. goes ws k c (list.owned p given ws k c own) twice waits ended;
       }

@@ -46,7 +46,7 @@ pub mod RoundRobin
 pub mod ListTicks
 -- and of its turns
 pub mod ListTurns
--- all of them, as `specs/Guarantees.antt` states what a minimum guarantees
-pub mod Guarantees
--- and that caps suffice
+-- that turns left turn no class away there
 pub mod TurnsLeft
+-- all of them, as `specs/Guarantees.antt` states what a minimum and a cap guarantee
+pub mod Guarantees

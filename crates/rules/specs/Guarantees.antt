@@ -1,4 +1,5 @@
--- W-202's promises: what a minimum guarantees. They are said of every list of calls from fresh, and of what its log shows. The last one, on what a class learns, is `Noninterference` (crate `noninterference`).
+-- W-202's promises, what a minimum guarantees, and W-209's, what the least class's cap does. They are said of every list of calls from fresh, and of what its log shows. W-202's last one, on what a class learns, is
+-- `Noninterference` (crate `noninterference`).
 use mathlib.Core.Path.{_≡_}
 use mathlib.Core.Bool.{Bool, true, false, _&&_}
 use mathlib.Core.List.{List, [], _∷_, _++_}
@@ -98,6 +99,10 @@ pub record Guarantees (p : Policy) : Type 0 where
       → minimum p c ≤ ownedIn p ws e c
   -- "every class owns at most its cap"
   pub at-most-its-cap : (ws : List ℕ) (e c : ℕ) → isClass p c ≡ true → ownedIn p ws e c ≤ cap p c
+  -- W-209: "a least class with a request waiting at every turn start of an epoch owns exactly its cap in that epoch"
+  pub exactly-its-cap : (ws : List ℕ) (e : ℕ)
+      → ((j : ℕ) → j < p .epoch → Started p ws (e * p .epoch + j) × Waits p ws (e * p .epoch + j) (least p))
+      → ownedIn p ws e (least p) ≡ cap p (least p)
   -- "If a class with a minimum of 1 or more has a request waiting at a turn's start, a turn of its own starts within E turns, that one counted, if so many start, or the request has gone before." A request goes in
   -- a turn of its class alone, so the first half always holds, with the same head.
   pub within-an-epoch : (ws : List ℕ) (k c : ℕ) → isClass p c ≡ true → 1 ≤ minimum p c → Waits p ws k c → Started p ws (k + (p .epoch - 1))

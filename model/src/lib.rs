@@ -13,7 +13,7 @@
 //! | Trace and log                      | [`trace`]               |
 //! | The extract                        | [`extract`]             |
 //! | Two lists side by side             | [`leaks`], [`pairs`]    |
-//! | W-202's promises of turns          | [`promises`]            |
+//! | W-202's and W-209's promises       | [`promises`]            |
 //! | The program                        | [`program`]             |
 //! | What is turned down                | [`refusal`]             |
 //!

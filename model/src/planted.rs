@@ -75,6 +75,10 @@ pub enum Planted {
     AscentNotCharged,
     /// Where the dead time is kept, it begins one cycle early.
     DeadTimeEarly,
+    /// A class's cap is E less the minimums of all classes strictly above it and less its
+    /// own. In a list of calls from a fresh state each class owns what it did, and the log
+    /// stays; the promises on caps, held against these caps, are broken.
+    CapLessOwnMinimum,
 }
 
 /// Every wrong rule that leaks in a list of calls from a fresh state.

@@ -1,12 +1,12 @@
-//! What W-202 promises of every accepted policy and every list of calls from fresh: a search for
-//! lists in which a promise is broken. The lists are those of the search for leaks ([`crate::pairs`]),
+//! What W-202 and W-209 promise of every accepted policy and every list of calls from fresh: a search
+//! for lists in which a promise is broken. The lists are those of the search for leaks ([`crate::pairs`]),
 //! and what happens in them is taken from the ticks' records and the states between them.
 
 use std::collections::BTreeMap;
 
 use crate::pairs::pair;
 use crate::planted::Planted;
-use crate::policy::Policy;
+use crate::policy::{Policy, LONGEST_EPOCH, MOST_CLASSES};
 use crate::state::{Request, State};
 use crate::tick::{offer_in_range, offset, tick_in_range, turn_number, Wires};
 use crate::trace::{run_line, Word};
@@ -19,6 +19,12 @@ pub enum Promise {
     Minimum,
     /// "every class owns at most its cap"
     Cap,
+    /// W-209: "a least class with a request waiting at every turn start of an epoch owns exactly its cap
+    /// in that epoch"; the epoch's turns have all started.
+    FullCap,
+    /// The same of a least class that has home turns and a request waiting at each of them, but not at
+    /// every turn start. It is not promised: there the search must find it broken.
+    FullCapByHomeTurns,
     /// "If a class with a minimum of 1 or more has a request waiting at a turn's start, a turn of its own
     /// starts within E turns, that one counted, if so many start, or the request has gone before."
     Wait,
@@ -43,7 +49,7 @@ pub struct Broken {
 }
 
 /// How often the promises came to bear, and in what way.
-const COUNTED: [&str; 24] = [
+const COUNTED: [&str; 37] = [
     "minimums owed",
     "minimums owed to classes that are not least",
     "minimums owed to a least class",
@@ -55,6 +61,19 @@ const COUNTED: [&str; 24] = [
     "caps of epochs that have begun",
     "caps below E that are owned whole",
     "caps below E that classes other than the least own whole",
+    "full caps owed",
+    "full caps owed to one class alone",
+    "full caps owed where another class waits at each turn's start too",
+    "full caps owed where another class is idle at a home turn of its own",
+    "full caps owed to classes with a minimum",
+    "full caps below E owed to classes without a minimum",
+    "full caps owed where S is E",
+    "full caps of 0 turns",
+    "full caps owed where E is 64",
+    "full caps owed among sixteen classes",
+    "full caps owed to classes that are not number 0",
+    "full caps owed in epochs after the first",
+    "least classes that wait at home, not throughout, and own less than their cap",
     "waits",
     "waits of classes that are not least",
     "waits where S is E",
@@ -113,16 +132,20 @@ pub fn search_planted(count: u64, planted: Planted) -> Search {
     };
     for seed in 0..count {
         let pair = pair(seed);
+        // Turns left are set to the caps that the rule in place counts, and the promises are
+        // held against those.
+        let policy = pair.policy.with_caps_by(planted);
         for (side, list) in pair.lists.iter().enumerate() {
-            let turns = perform(&pair.policy, pair.start.clone(), list, planted);
+            let turns = perform(&policy, pair.start.clone(), list, planted);
             let mut check = Check {
-                policy: &pair.policy,
+                policy: &policy,
                 turns: &turns,
                 place: (seed, side),
                 search: &mut search,
             };
             check.minimums();
             check.caps();
+            check.full_caps();
             check.waits();
             check.heads();
             check.turns_left();
@@ -140,6 +163,23 @@ struct Turn {
     ticks: u32,
     /// The first activate of its owner in it, with its offset.
     first: Option<(Request, u32)>,
+}
+
+impl Turn {
+    /// Whether a class had a request waiting as it started.
+    fn finds_waiting(&self, class: usize) -> bool {
+        self.classes[class].head.is_some()
+    }
+}
+
+/// Whether a class had a request waiting as each of some turns started.
+fn waits_throughout(turns: &[Turn], class: usize) -> bool {
+    turns.iter().all(|turn| turn.finds_waiting(class))
+}
+
+/// How many of some turns a class owns.
+fn owned_by(turns: &[Turn], class: usize) -> usize {
+    turns.iter().filter(|turn| turn.owner == class).count()
 }
 
 /// What a class had at a turn's start.
@@ -222,13 +262,14 @@ pub struct Changed {
 pub fn changed_by(count: u64, planted: Planted) -> Changed {
     let mut changed = Changed::default();
     for pair in (0..count).map(pair) {
+        let wrong_policy = pair.policy.with_caps_by(planted);
         for list in &pair.lists {
             let mut right = pair.start.clone();
             let mut wrong = pair.start.clone();
             let mut log_differs = false;
             for &number in list {
                 let line = run_line(&pair.policy, &mut right, number, Planted::Nothing);
-                log_differs |= line != run_line(&pair.policy, &mut wrong, number, planted);
+                log_differs |= line != run_line(&wrong_policy, &mut wrong, number, planted);
             }
             let left = |state: &mut State| -> Vec<u8> {
                 let classes = state.classes.iter_mut();
@@ -280,26 +321,27 @@ impl Check<'_> {
         self.policy.sum_of_minimums() == u32::from(self.policy.epoch)
     }
 
+    /// Whether a class has home turns, and a request waiting at all those of an epoch.
+    fn waits_at_home(&self, epoch: &[Turn], class: usize) -> bool {
+        let is_home = |place: usize| self.policy.home(place as u32) == Some(class);
+        let mut home_turns = (0..epoch.len()).filter(|&place| is_home(place));
+        self.policy.minimums[class] > 0 && home_turns.all(|place| epoch[place].finds_waiting(class))
+    }
+
     fn minimums(&mut self) {
         let (least, home_turns_alone) = (self.policy.least(), self.home_turns_alone());
         for (number, epoch) in self.turns.chunks_exact(self.epoch()).enumerate() {
             for (class, minimum) in self.minimum_of() {
-                let waits = |turn: &Turn| turn.classes[class].head.is_some();
-                let is_home = |place: usize| self.policy.home(place as u32) == Some(class);
-                let mut home_turns = (0..epoch.len()).filter(|&place| is_home(place));
-                if minimum == 0 || !home_turns.all(|place| waits(&epoch[place])) {
+                if !self.waits_at_home(epoch, class) {
                     continue;
                 }
-                let owned = epoch.iter().filter(|turn| turn.owner == class).count();
+                let owned = owned_by(epoch, class);
                 self.hold(Promise::Minimum, owned >= minimum, || {
                     format!("class {class} owns {owned} of {minimum} turns of epoch {number}")
                 });
                 let lower_wait = (0..self.policy.class_count())
                     .filter(|&lower| self.policy.strictly_below(lower, class))
-                    .any(|lower| {
-                        let mut turns = epoch.iter();
-                        turns.all(|turn| turn.classes[lower].head.is_some())
-                    });
+                    .any(|lower| waits_throughout(epoch, lower));
                 let search = &mut *self.search;
                 search.met_if(true, "minimums owed");
                 search.met_if(
@@ -325,7 +367,7 @@ impl Check<'_> {
             self.search.met_if(whole, "caps of whole epochs");
             self.search.met_if(!whole, "caps of epochs that have begun");
             for (class, &cap) in self.policy.caps.iter().enumerate() {
-                let owned = epoch.iter().filter(|turn| turn.owner == class).count();
+                let owned = owned_by(epoch, class);
                 self.hold(Promise::Cap, owned <= usize::from(cap), || {
                     format!(
                         "class {class} owns {owned} turns of epoch {number}, and its cap is {cap}"
@@ -338,6 +380,60 @@ impl Check<'_> {
                     "caps below E that classes other than the least own whole",
                 );
             }
+        }
+    }
+
+    fn full_caps(&mut self) {
+        let (least, home_turns_alone) = (self.policy.least(), self.home_turns_alone());
+        let (minimum, cap) = (self.policy.minimums[least], self.policy.caps[least]);
+        let n = self.policy.class_count();
+        for (number, epoch) in self.turns.chunks_exact(self.epoch()).enumerate() {
+            let promise = match waits_throughout(epoch, least) {
+                true => Promise::FullCap,
+                false if self.waits_at_home(epoch, least) => Promise::FullCapByHomeTurns,
+                false => continue,
+            };
+            let owned = owned_by(epoch, least);
+            self.hold(promise, owned == usize::from(cap), || {
+                format!(
+                    "{least}, the least, owns {owned} turns of epoch {number}, and its cap is {cap}"
+                )
+            });
+            if promise == Promise::FullCapByHomeTurns {
+                self.search.met_if(
+                    owned < usize::from(cap),
+                    "least classes that wait at home, not throughout, and own less than their cap",
+                );
+                continue;
+            }
+            let mut others = (0..n).filter(|&class| class != least);
+            let other_idle_at_home = others
+                .clone()
+                .any(|class| self.policy.minimums[class] > 0 && !self.waits_at_home(epoch, class));
+            let other_waits = others.any(|class| waits_throughout(epoch, class));
+            let e = self.policy.epoch;
+            let search = &mut *self.search;
+            search.met_if(true, "full caps owed");
+            search.met_if(n == 1, "full caps owed to one class alone");
+            search.met_if(
+                other_waits,
+                "full caps owed where another class waits at each turn's start too",
+            );
+            search.met_if(
+                other_idle_at_home,
+                "full caps owed where another class is idle at a home turn of its own",
+            );
+            search.met_if(minimum > 0, "full caps owed to classes with a minimum");
+            search.met_if(
+                minimum == 0 && cap < e,
+                "full caps below E owed to classes without a minimum",
+            );
+            search.met_if(home_turns_alone, "full caps owed where S is E");
+            search.met_if(cap == 0, "full caps of 0 turns");
+            search.met_if(e == LONGEST_EPOCH, "full caps owed where E is 64");
+            search.met_if(n == MOST_CLASSES, "full caps owed among sixteen classes");
+            search.met_if(least > 0, "full caps owed to classes that are not number 0");
+            search.met_if(number > 0, "full caps owed in epochs after the first");
         }
     }
 

@@ -1,5 +1,6 @@
 //! W-202, "Turns that a class can count on": the plan of home turns, their walk, what it charges, and
-//! the dead time before them. What it promises of whole lists is held by `promises.rs`.
+//! the dead time before them; and examples of W-209, "The full cap, not up to it". What the two promise
+//! of whole lists is held by `promises.rs`.
 
 mod common;
 
@@ -253,4 +254,70 @@ fn an_epochs_last_turn_goes_by_what_the_next_epoch_starts_with() {
     assert_eq!(turn(&some, &mut state, &[0]), (1, KEPT));
     let none = policy(&CHAIN_OF_TWO, 1, &[0, 0], TIMING);
     assert_eq!(turn(&none, &mut fresh(&none), &[0]), (0, DROPPED));
+}
+
+// ---------------------------------------------------------------------------
+// W-209: "a least class with a request waiting at every turn start of an epoch owns exactly its cap in
+// that epoch."
+
+/// Whole epochs in which some classes, the least among them, always have a request waiting, their owners
+/// and the cap of the least class worked out by hand.
+fn check_full_cap(policy: &Policy, least: u8, cap: usize, waiting: &[u8], expected: &[u32]) {
+    assert_eq!(policy.least(), usize::from(least));
+    assert_eq!(usize::from(policy.caps[policy.least()]), cap);
+    let list = always_waiting(policy, waiting, expected.len());
+    assert_eq!(picked(policy, &list), expected);
+    let epochs = expected.chunks_exact(usize::from(policy.epoch));
+    assert!(epochs.len() >= 2 && epochs.remainder().is_empty());
+    for epoch in epochs {
+        let owned = epoch.iter().filter(|&&owner| owner == u32::from(least));
+        assert_eq!(owned.count(), cap);
+    }
+}
+
+#[test]
+fn one_class_alone_owns_all_of_an_epoch() {
+    // Nothing is above it: its cap is E, whatever its own minimum.
+    for minimum in 0..=3 {
+        let policy = policy(&[1], 3, &[minimum], TIMING);
+        check_full_cap(&policy, 0, 3, &[0], &[0, 0, 0, 0, 0, 0]);
+    }
+}
+
+#[test]
+fn the_least_of_a_chain_owns_its_cap_and_nothing_that_others_pass_on() {
+    // Two turns that start at class 0, then a home turn of each. Its cap is 5 - 1 - 1.
+    let policy = policy(&CHAIN_OF_THREE, 5, &[1, 1, 1], TIMING);
+    let all_waiting = [0, 0, 0, 1, 2, 0, 0, 0, 1, 2];
+    check_full_cap(&policy, 0, 3, &[0, 1, 2], &all_waiting);
+    // Class 1 passes its home turn up to class 2, which owns its own too, idle as it is.
+    let alone_waiting = [0, 0, 0, 2, 2, 0, 0, 0, 2, 2];
+    check_full_cap(&policy, 0, 3, &[0], &alone_waiting);
+}
+
+#[test]
+fn where_s_is_e_a_least_class_owns_its_minimum_and_no_more() {
+    // 0 below 1, 2 and 3, of which no two may flow to each other.
+    let rows = [0b1111, 0b0010, 0b0100, 0b1000];
+    // Its cap is 6 - 1 - 2 - 1. Each of the others has nothing above it and so owns its home turns,
+    // idle or not.
+    let some = policy(&rows, 6, &[2, 1, 2, 1], TIMING);
+    let expected = [0, 0, 1, 2, 2, 3, 0, 0, 1, 2, 2, 3];
+    check_full_cap(&some, 0, 2, &[0, 1, 2, 3], &expected);
+    check_full_cap(&some, 0, 2, &[0], &expected);
+    // Without a minimum its cap is 4 - 1 - 2 - 1.
+    let none = policy(&rows, 4, &[0, 1, 2, 1], TIMING);
+    check_full_cap(&none, 0, 0, &[0], &[1, 2, 2, 3, 1, 2, 2, 3]);
+}
+
+#[test]
+fn a_least_class_of_any_number_owns_its_cap() {
+    // 2 below 0 and 1, both below 3: two turns that start at class 2, then home turns of 0, 2, 3 and 3.
+    // Its cap is 6 - 1 - 0 - 2.
+    let policy = policy(&[0b1001, 0b1010, 0b1111, 0b1000], 6, &[1, 0, 1, 2], TIMING);
+    let all_waiting = [2, 2, 0, 2, 3, 3, 2, 2, 0, 2, 3, 3];
+    check_full_cap(&policy, 2, 3, &[0, 1, 2, 3], &all_waiting);
+    // Class 0 passes its home turn up to class 3.
+    let alone_waiting = [2, 2, 3, 2, 3, 3, 2, 2, 3, 2, 3, 3];
+    check_full_cap(&policy, 2, 3, &[2], &alone_waiting);
 }

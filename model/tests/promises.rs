@@ -1,5 +1,5 @@
-//! W-202's promises hold of the model as it is, and the search for lists that break one finds every
-//! rule that does.
+//! The promises of W-202 and W-209 hold of the model as it is, and the search for lists that break one
+//! finds every rule that does.
 
 use std::sync::OnceLock;
 
@@ -11,6 +11,9 @@ const PAIRS: u64 = 20_000;
 /// A broken promise must show in so many.
 const PAIRS_ENOUGH: u64 = PAIRS / 10;
 
+/// What is held though it is not promised.
+const NOT_PROMISED: [Promise; 2] = [Promise::FullCapByHomeTurns, Promise::ActivateInShortTurns];
+
 /// The search of the model as it is, made once for all tests that ask.
 fn ordinary_search() -> &'static Search {
     static SEARCH: OnceLock<Search> = OnceLock::new();
@@ -19,10 +22,15 @@ fn ordinary_search() -> &'static Search {
 
 /// What a wrong rule breaks.
 fn broken_by(planted: Planted) -> Vec<Promise> {
-    let search = search_planted(PAIRS_ENOUGH, planted);
+    broken_within(PAIRS_ENOUGH, planted)
+}
+
+/// The same in so many pairs.
+fn broken_within(pairs: u64, planted: Planted) -> Vec<Promise> {
+    let search = search_planted(pairs, planted);
     println!("{planted:?}: {:#?}", search.broken);
-    let of_rules = |promise: &Promise| *promise != Promise::ActivateInShortTurns;
-    search.broken.into_keys().filter(of_rules).collect()
+    let promised = |promise: &Promise| !NOT_PROMISED.contains(promise);
+    search.broken.into_keys().filter(promised).collect()
 }
 
 /// What a wrong rule changes in the lists that are searched.
@@ -32,11 +40,23 @@ fn changed(planted: Planted) -> Changed {
     changed
 }
 
+/// A wrong rule changes the turns left after some of these lists, and nothing else.
+fn changes_turns_left_alone(planted: Planted) {
+    let Changed {
+        logs,
+        turns_left,
+        other_parts,
+    } = changed(planted);
+    assert_eq!([logs, other_parts], [0, 0]);
+    assert!(turns_left > 0);
+}
+
 #[test]
 fn the_model_as_it_is_keeps_every_promise() {
     for promise in [
         Promise::Minimum,
         Promise::Cap,
+        Promise::FullCap,
         Promise::Wait,
         Promise::Activate,
         Promise::TurnsLeft,
@@ -63,8 +83,10 @@ fn finds_home_turns_that_start_at_the_least_class() {
     let broken = broken_by(Planted::HomeTurnsStartAtLeast);
     assert!(broken.contains(&Promise::Minimum), "{broken:?}");
     assert!(broken.contains(&Promise::Wait), "{broken:?}");
-    // Charges alone keep a class to its cap there, and they use its turns up.
+    // Charges alone keep a class to its cap there, and they use its turns up: all of them, if it is
+    // the least and waits throughout.
     assert!(!broken.contains(&Promise::Cap), "{broken:?}");
+    assert!(!broken.contains(&Promise::FullCap), "{broken:?}");
     assert!(broken.contains(&Promise::TurnsLeft), "{broken:?}");
 }
 
@@ -72,6 +94,26 @@ fn finds_home_turns_that_start_at_the_least_class() {
 fn finds_home_turns_that_nobody_is_charged_for() {
     let broken = broken_by(Planted::HomeTurnsForAnyone);
     assert!(broken.contains(&Promise::Cap), "{broken:?}");
+    assert!(broken.contains(&Promise::FullCap), "{broken:?}");
+}
+
+/// The caps are then smaller numbers, and each class owns what it did, since turns left decide nothing:
+/// no log shows this rule. It shows in that classes own more turns than these caps.
+#[test]
+fn finds_a_cap_less_the_classs_own_minimum() {
+    let planted = Planted::CapLessOwnMinimum;
+    changes_turns_left_alone(planted);
+    let broken = [Promise::Cap, Promise::FullCap, Promise::TurnsLeft];
+    assert_eq!(broken_by(planted), broken);
+    // Nine pairs show all three.
+    assert_eq!(broken_within(9, planted), broken);
+}
+
+/// A least class that waits throughout then owns less than its cap. No other promise says that it must
+/// not.
+#[test]
+fn finds_a_higher_class_asked_first_by_the_full_cap_alone() {
+    assert_eq!(broken_by(Planted::HigherAskedFirst), [Promise::FullCap]);
 }
 
 #[test]
@@ -80,12 +122,20 @@ fn finds_a_dead_time_that_begins_one_cycle_early() {
     assert_eq!(broken, [Promise::Activate]);
 }
 
-/// Without its premise the last promise does not hold: the search must see that.
+/// Without its premise W-202's last promise does not hold: the search must see that.
 #[test]
 fn finds_turns_too_short_to_activate_the_head() {
     let broken = &ordinary_search().broken;
     println!("{broken:?}");
     assert!(broken.contains_key(&Promise::ActivateInShortTurns));
+}
+
+/// To wait at all home turns is not W-209's premise, and not enough: the search must see that.
+#[test]
+fn finds_least_classes_that_wait_at_home_and_own_less_than_their_cap() {
+    let broken = &ordinary_search().broken;
+    println!("{broken:?}");
+    assert!(broken.contains_key(&Promise::FullCapByHomeTurns));
 }
 
 /// Neither of these two shows in the log of a list from fresh: where a walk comes to a class, the class
@@ -95,13 +145,7 @@ fn finds_turns_too_short_to_activate_the_head() {
 #[test]
 fn turns_left_decide_nothing_in_a_list_from_fresh() {
     assert_eq!(changed(Planted::HomeNeedsTurnsLeft), Changed::default());
-    let Changed {
-        logs,
-        turns_left,
-        other_parts,
-    } = changed(Planted::AscentNotCharged);
-    assert_eq!([logs, other_parts], [0, 0]);
-    assert!(turns_left > 0);
+    changes_turns_left_alone(Planted::AscentNotCharged);
     assert_eq!(broken_by(Planted::HomeNeedsTurnsLeft), []);
     assert_eq!(broken_by(Planted::AscentNotCharged), []);
 }

@@ -12,12 +12,6 @@ use vigambul_model::state::{InFlight, Kind, State, LAST_CYCLE};
 const DROPPED: bool = true;
 const KEPT: bool = false;
 
-/// The owners of a list that is run from the fresh state.
-fn picked(policy: &Policy, list: &[u32]) -> Vec<u32> {
-    let log = run_fresh(policy, list);
-    owners(&log).into_iter().map(|(owner, _)| owner).collect()
-}
-
 /// The ticks of some turns in which nobody asks.
 fn idle(policy: &Policy, turns: usize) -> Vec<u32> {
     vec![0; turns * usize::from(policy.timing.turn_length)]

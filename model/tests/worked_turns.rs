@@ -1,6 +1,6 @@
 //! The worked turns (a) to (h) of document 01, (c) and (d) as W-202 takes them, and
 //! the examples of document 000's sections 3.2 and 5.1. Marks move by W-201, of which
-//! `marks.rs` has more; `home_turns.rs` has more of W-202.
+//! `marks.rs` has more; `home_turns.rs` has more of W-202, and W-209.
 
 mod common;
 
@@ -84,8 +84,7 @@ fn d_a_chain_of_three_with_minimums_0_1_1() {
 fn e_nobody_waits_and_the_walk_ends_at_a_class_with_nothing_above() {
     let pick = |rows: &[u16], count: usize| -> Vec<u32> {
         let policy = policy(rows, 2, &vec![0; rows.len()], TIMING);
-        let log = run_fresh(&policy, &vec![0; 4 * count]);
-        owners(&log).into_iter().map(|(owner, _)| owner).collect()
+        picked(&policy, &vec![0; 4 * count])
     };
     assert_eq!(pick(&CHAIN_OF_THREE, 4), [2, 2, 2, 2]);
     assert_eq!(pick(&FORK, 5), [1, 2, 1, 2, 1]);
@@ -157,18 +156,15 @@ fn section_3_2_owners_h_h_l_h() {
     let mut list = vec![0; 4];
     list.extend([read_word(1, 1), read_word(0, 2), 0, 0, 0, 0]);
     list.extend([read_word(1, 3), read_word(1, 4), 0, 0, 0, 0, 0, 0, 0, 0]);
-    let log = run_fresh(&policy, &list);
-    let picked: Vec<u32> = owners(&log).into_iter().map(|(owner, _)| owner).collect();
-    assert_eq!(picked, [1, 1, 0, 1]);
+    assert_eq!(picked(&policy, &list), [1, 1, 0, 1]);
 }
 
 /// The limit itself: L always waiting has one turn of each two.
 #[test]
 fn section_3_2_the_lower_class_has_at_most_one_turn_in_an_epoch() {
     let policy = policy(&CHAIN_OF_TWO, 2, &[0, 1], TIMING);
-    let log = run_fresh(&policy, &always_waiting(&policy, &[0], 6));
-    let picked: Vec<u32> = owners(&log).into_iter().map(|(owner, _)| owner).collect();
-    assert_eq!(picked, [0, 1, 0, 1, 0, 1]);
+    let list = always_waiting(&policy, &[0], 6);
+    assert_eq!(picked(&policy, &list), [0, 1, 0, 1, 0, 1]);
 }
 
 /// Document 000, section 5.1: in the diamond, M1 and M2 alternate whether or not
@@ -176,13 +172,11 @@ fn section_3_2_the_lower_class_has_at_most_one_turn_in_an_epoch() {
 #[test]
 fn section_5_1_round_robin_between_incomparable_classes() {
     let policy = policy(&DIAMOND, 64, &[0; 4], TIMING);
-    let log = run_fresh(&policy, &always_waiting(&policy, &[1, 2], 6));
-    let picked: Vec<u32> = owners(&log).into_iter().map(|(owner, _)| owner).collect();
-    assert_eq!(picked, [1, 2, 1, 2, 1, 2]);
+    let list = always_waiting(&policy, &[1, 2], 6);
+    assert_eq!(picked(&policy, &list), [1, 2, 1, 2, 1, 2]);
     // Class 2 idle: its turn goes up to the greatest class, not over to 1.
-    let log = run_fresh(&policy, &always_waiting(&policy, &[1], 4));
-    let picked: Vec<u32> = owners(&log).into_iter().map(|(owner, _)| owner).collect();
-    assert_eq!(picked, [1, 3, 1, 3]);
+    let list = always_waiting(&policy, &[1], 4);
+    assert_eq!(picked(&policy, &list), [1, 3, 1, 3]);
 }
 
 /// Document 000, figure 9: a class with three covers counts from 1 to 3 and
@@ -195,7 +189,6 @@ fn section_5_1_a_pointer_counts_through_all_covers() {
     let policy = policy(&rows, 64, &[0; 6], TIMING);
     assert_eq!(policy.covers[5], [4]);
     assert_eq!(policy.covers[4], [1, 2, 3]);
-    let log = run_fresh(&policy, &always_waiting(&policy, &[1, 2, 3], 7));
-    let picked: Vec<u32> = owners(&log).into_iter().map(|(owner, _)| owner).collect();
-    assert_eq!(picked, [1, 2, 3, 1, 2, 3, 1]);
+    let list = always_waiting(&policy, &[1, 2, 3], 7);
+    assert_eq!(picked(&policy, &list), [1, 2, 3, 1, 2, 3, 1]);
 }

@@ -8,7 +8,7 @@ from vigambul.figures import figures_of
 from vigambul.folders import folder_at, run_folder
 from vigambul.formats import Request, class_of
 from vigambul.history import Replay
-from vigambul.minimums import class_words, minimum_words, plan_words, wait_words
+from vigambul.minimums import class_words, least_words, minimum_words, plan_words, wait_words
 from vigambul.policies import Names, Policy
 
 from .samples import a_policy, generated, write
@@ -129,6 +129,22 @@ class Promises(Case):
         self.assertGreater(passed, 100)
         self.assertGreater(alone, 0)
 
+    def test_the_full_cap(self):
+        """The least class owns its cap of an epoch, neither more nor less, if it has a request waiting as each of its turns starts; if it has not, it may own less."""
+        owed = capped = less = 0
+        for ran, policy, turns in self.runs():
+            least, cap = policy.least, policy.cap(policy.least)
+            for epoch, owned in enumerate(figures_of(ran).turns_in_epochs(least)):
+                starts = turns.waiting[epoch * policy.epoch : (epoch + 1) * policy.epoch]
+                if all(start[least] for start in starts):
+                    self.assertEqual(owned, cap)
+                    owed += 1
+                    capped += cap < policy.epoch
+                less += owned < cap
+        self.assertGreater(owed, 100)
+        self.assertGreater(capped, 50)
+        self.assertGreater(less, 50)
+
     def test_the_oldest_request_goes_out(self):
         """In a turn of its class that is ticked to its end, where turns are at least twice the dead time; where they are shorter it may not."""
         went = late = 0
@@ -162,6 +178,20 @@ class Words(Case):
             ([4, 0, 0], "low, minimum 4: every turn is its home turn. It owns at least 4 turns of an epoch in which it has a request waiting as each of these starts, and at most 4 "),
         ):
             self.assertTrue(class_words(Policy([7, 6, 4], 4, minimums, TIMING), CHAIN_NAMES, 0).startswith(words), words)
+
+    def test_of_the_least_class(self):
+        exactly = "low, the least class, owns exactly %s, its cap, of an epoch in which it has a request waiting as each turn starts"
+        for rows, minimums, words in (
+            ([7, 6, 4], [0, 1, 1], exactly % "2 turns"),
+            ([7, 6, 4], [1, 2, 1], exactly % "1 turn"),
+            ([7, 6, 4], [4, 0, 0], exactly % "4 turns"),
+            ([7, 6, 4], [0, 3, 1], "low, the least class, owns no turn: the home turns of others fill the epoch, and its cap is 0"),
+            ([1, 3], [1, 0], (exactly % "3 turns").replace("low", "middle")),
+            ([1], [1], "low, the one class, owns every turn"),
+        ):
+            policy = Policy(rows, 4, minimums, TIMING)
+            self.assertEqual(least_words(policy, CHAIN_NAMES), words)
+            self.assertEqual(minimum_words(policy, CHAIN_NAMES).count("- %s." % words), 1)
 
     def test_of_the_wait(self):
         own, goes = wait_words(CHAIN)

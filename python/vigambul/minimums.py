@@ -1,5 +1,5 @@
-"""What a minimum does and guarantees under the rules in force: document 01 with request W-202 of document 02. The one place that says it: a request that changes the rules
-changes this text."""
+"""What a minimum does and guarantees under the rules in force: document 01 with requests W-202 and W-209 of document 02. The one place that says it: a request that changes the
+rules changes this text."""
 
 from .words import counted
 
@@ -44,6 +44,16 @@ def class_words(policy, names, number):
     return "%s, minimum %d: %s. It owns %s, and at most %d of any, its cap" % (names.of(number), minimum, homes, least, policy.cap(number))
 
 
+def least_words(policy, names):
+    """What the least class may count on in an epoch, minimum or not."""
+    if policy.classes == 1:
+        return "%s, the one class, owns every turn" % names.of(policy.least)
+    cap = policy.cap(policy.least)
+    if cap == 0:
+        return "%s, the least class, owns no turn: the home turns of others fill the epoch, and its cap is 0" % names.of(policy.least)
+    return "%s, the least class, owns exactly %s, its cap, of an epoch in which it has a request waiting as each turn starts" % (names.of(policy.least), counted(cap, "turn"))
+
+
 def wait_words(policy):
     """How long a class with a minimum waits for a turn of its own, and for its request to go out: the same for all of them."""
     turns = "that turn (%s)" if policy.epoch == 1 else "one of the %d turns (%%s) from that one on, if the run has so many turns" % policy.epoch
@@ -67,5 +77,5 @@ def minimum_words(policy, names):
     lines = RULE.splitlines()
     if not given(policy):
         return lines + [none_words(policy, names)]
-    promises = [class_words(policy, names, number) for number in given(policy)] + wait_words(policy)
+    promises = [class_words(policy, names, number) for number in given(policy)] + [least_words(policy, names)] + wait_words(policy)
     return lines + ["Here, in every run and whatever the other classes do:"] + ["- %s." % promise for promise in promises]

@@ -114,12 +114,11 @@ module _ (p : Policy) (given : policyInRange p ≡ true) where
           inl (list.owning p given ws k c (there .0) (list.owns-other p given ws k free (there .1) (caps-suffice p given .some-left ws k c (there .0) tried))))
           (either (homeTurn p j))
 
-      exactly : ownedIn p ws e (least p) ≡ cap p (least p)
+      no-less : cap p (least p) ≤ ownedIn p ws e (least p)
       unfolding ownedIn
-      exactly =
-          let class = policy-laws p given .lowest .is-class in
+      no-less =
           let all = count-cover (λ j. owns p ws (least p) (e * p .epoch + j)) (list.higher-home p given (least p)) (p .epoch) its-or-higher in
-          omega (arith, all, list.all-but-higher p given (least p) class, at-most e (least p) class)
+          omega (arith, all, list.all-but-higher p given (least p) (policy-laws p given .lowest .is-class))
 
     -- ---- a turn of its own
 
@@ -371,7 +370,7 @@ module _ (p : Policy) (given : policyInRange p ≡ true) where
         ticks = tick-made;
         at-least-its-minimum = at-least;
         at-most-its-cap = at-most;
-        exactly-its-cap = exactly;
+        exactly-its-cap = λ ws e waits. omega (arith, no-less ws e waits, at-most ws e (least p) (policy-laws p given .lowest .is-class));
         within-an-epoch = within;
         head-goes = λ ws k c twice own waits ended. goes ws k c (list.owned p given ws k c own) twice waits ended;
       }

@@ -3,13 +3,13 @@
 -- Assumes nothing.
 use mathlib.Core.Path.{_≡_, refl, sym, ap, ap₂, _∙_, subst}
 use mathlib.Core.Logic.{⊎-elim}
-use mathlib.Core.Bool.{Bool, true, not, _&&_}
+use mathlib.Core.Bool.{Bool, true, false, not, _&&_}
 use mathlib.Core.List.{List, [], _∷_, _++_, map}
-use Prim.Native.Nat.{ℕ, _+_, _≤_}
+use Prim.Native.Nat.{ℕ, _+_, _*_, _%_, _≤_}
 use native.Mathlib.Nat.{not-suc-le-zero, le-of-lt}
 use native.Mathlib.Omega.{arith}
 use borrow.Author.Tests.{eqb-true, eq-eqb, ltb-true}
-use lib.Dec.{eqb}
+use lib.Dec.{ltb, eqb}
 use lib.ListN.{length, getD}
 use Rattle.basics.specs.Below.{every, some, first, count, sum, setOf, listOf}
 use Rattle.masks.specs.Mask.{member, includes, size, nth, belowMask}
@@ -21,7 +21,8 @@ use Rattle.file.specs.File.{byte, word, kind, start, bodySize, kindsFit, bodies
 use Rattle.file.specs.Taken.{policyOf}
 use Rattle.policy.specs.declared.Policy.{Policy}
 use Rattle.file.specs.declared.Reading.{Reading}
-use Rattle.basics.proofs.Truth.{either, not-both, and-fails-left, or-cases, on-true}
+use Rattle.basics.proofs.Truth.{either, not-both, and-fails-left, or-cases, on-true, on-false}
+use Rattle.basics.proofs.Below.{count-same}
 use Rattle.policy.proofs.Laws.{policy-laws}
 use Rattle.requests.specs.Word.{classOf, kindOf, bankOf, tagOf, isOffer, requestOf, wordOf, classFits, bankAndKindFit, columnNumber, commandNumber}
 use Rattle.queues.specs.Waiting.{headOf, lengthOf, place, waitingAt}
@@ -35,8 +36,9 @@ use Rattle.state.specs.Fresh.{zeros, emptyQueues, nothingInFlight, stateAtStart
 use Rattle.state.specs.Range.{inRange as stateRange}
 use Rattle.rules.specs.Call.{offerOn, silent, afterTick, tickOn, tick}
 use Rattle.requests.specs.Trace.{callOf}
-use Rattle.rules.specs.Calls.{Answer, ticked, offered, answer, answerTo, logOf}
-use Rattle.worked.specs.Worked.{example, alone, pair, fork, spare, chain, full, ticks, reads, everySecond, logFrom, turnsIn, turnsFrom, startOf, printed, Case, table, WorkedTurns}
+use Rattle.rules.specs.Calls.{Answer, ticked, offered, answer, answerTo, stateAfter, logOf}
+use Rattle.rules.specs.Guarantees.{ticksIn, stateAtTick, atTick, firstTick, owns, ownedIn}
+use Rattle.worked.specs.Worked.{example, alone, pair, fork, spare, chain, full, solo, ladder, filled, between, ticks, reads, everySecond, eachTurn, logFrom, turnsIn, turnsFrom, waitsAt, leastOwned, twoEpochs, startOf, printed, Case, table, WorkedTurns}
 use Rattle.state.specs.declared.State.{State}
 use Rattle.requests.specs.declared.Call.{Call}
 use Rattle.requests.specs.declared.Call.the-variants.{Tick, Offer, Malformed}
@@ -90,6 +92,35 @@ plain-right p s (w ∷ ws) e =
     ap (λ (l : List ℕ). a .status ∷ a .command ∷ a .response ∷ a .turn ∷ l) rest
     ∙ ap (λ (x : Answer). x .status ∷ x .command ∷ x .response ∷ x .turn ∷ plain-log p (x .state) ws) (plainly p s (callOf w) e)
 
+-- the ticks of a list in the same way
+
+plain-after : Policy → State → List ℕ → State
+plain-after p s [] = s
+plain-after p s (w ∷ ws) = plain-after p (plain p s (callOf w) .state) ws
+
+plain-at : Policy → State → List ℕ → ℕ → State
+plain-at p s [] t = s
+plain-at p s (w ∷ ws) t = elim (eqb w 0 && eqb (s .cycle) t) [ true ↦ s | false ↦ plain-at p (plain p s (callOf w) .state) ws t ]
+
+after-right : (p : Policy) (s : State) (ws : List ℕ) → stateRange p s ≡ true → stateAfter p s ws ≡ plain-after p s ws
+unfolding stateAfter answerTo plain-after
+after-right p s [] e = refl
+after-right p s (w ∷ ws) e =
+    after-right p (answer p s (callOf w) .state) ws (answered-in-range p s w e) ∙ ap (λ (x : Answer). plain-after p (x .state) ws) (plainly p s (callOf w) e)
+
+-- the state at a tick is in range, too
+at-right : (p : Policy) (s : State) (ws : List ℕ) (t : ℕ) → stateRange p s ≡ true → (stateAtTick p s ws t ≡ plain-at p s ws t) × (stateRange p (stateAtTick p s ws t) ≡ true)
+unfolding stateAtTick answerTo plain-at
+at-right p s [] t e = (refl, e)
+at-right p s (w ∷ ws) t e =
+    let now = eqb w 0 && eqb (s .cycle) t in
+    ⊎-elim
+    (λ here. (on-true now _ _ here ∙ sym (on-true now _ _ here), subst (λ (u : State). stateRange p u ≡ true) (sym (on-true now _ _ here)) e))
+    (λ later.
+    let rest = at-right p (answer p s (callOf w) .state) ws t (answered-in-range p s w e) in
+    (on-false now _ _ later ∙ rest .0 ∙ ap (λ (x : Answer). plain-at p (x .state) ws t) (plainly p s (callOf w) e) ∙ sym (on-false now _ _ later), subst (λ (u : State). stateRange p u ≡ true) (sym (on-false now _ _ later)) (rest .1)))
+    (either now)
+
 log-computed : Policy → List ℕ → List ℕ
 unfolding policy-computed plain plain-log ticks reads callOf isOffer requestOf wordOf classOf kindOf bankOf tagOf columnNumber commandNumber classFits bankAndKindFit offerOn offerStatus queuesAfter enqueue dequeue headOf lengthOf place waitingAt freshState stateAtStart emptyQueues nothingInFlight zeros silent afterTick tickOn turnsAt turnStarts turnNumber turnWord goesAt going canActivate drive answered dueAt sentAt activateAt activateNext activateKind gapMet gapsMetBy gapsMet offsetAllows activated first count size nth moved movedPointer named takesBy takes passedAt endsAt tryClass charge goesOn reaches nextLeft firstClass elides leftAtStart ownedBy startTurn least leastIn flowsIn leastAt every member freeTurns homeTurnIn homePlace minimumsBelow homeAt minimumsSum homeTurn homeClass flows takesHome leftTried charged
 log-computed p ws = plain-log p (freshState p) ws
@@ -99,6 +130,36 @@ from-fresh : (p : Policy) → inRange p ≡ true → (ws : List ℕ) → logFrom
 unfolding logFrom log-computed
 from-fresh p given ws = plain-right p (freshState p) ws (fresh-fits p given)
 
+-- W-209's numbers in the same way
+plain-there : Policy → List ℕ → ℕ → State
+plain-there p ws k = plain-at p (freshState p) ws (firstTick p k)
+
+owned-computed : Policy → List ℕ → ℕ → List ℕ
+unfolding log-computed plain-after plain-at plain-there cap
+owned-computed p ws e =
+    let made = plain-after p (freshState p) ws .cycle in
+    count (p .epoch) (λ j. ltb (firstTick p (e * p .epoch + j)) made && not (eqb (lengthOf (plain-there p ws (e * p .epoch + j) .queues) (least p)) 0))
+    ∷ count (p .epoch) (λ j. ltb (firstTick p (e * p .epoch + j)) made && eqb (plain p (plain-there p ws (e * p .epoch + j)) Tick .turn % 256) (least p + 1))
+    ∷ cap p (least p)
+    ∷ []
+
+least-owned : (p : Policy) → inRange p ≡ true → (ws : List ℕ) (e : ℕ) → leastOwned p ws e ≡ owned-computed p ws e
+unfolding leastOwned waitsAt ownedIn owns owned-computed plain-there answerTo callOf
+least-owned p given ws e =
+    let fits = fresh-fits p given in
+    let there : (k : ℕ) → (atTick p ws (firstTick p k) ≡ plain-there p ws k) × (stateRange p (atTick p ws (firstTick p k)) ≡ true) = λ k. at-right p (freshState p) ws (firstTick p k) fits in
+    let made : ticksIn p ws ≡ plain-after p (freshState p) ws .cycle = ap (λ (s : State). s .cycle) (after-right p (freshState p) ws fits) in
+    ap₂ (λ (waits owned : ℕ). waits ∷ owned ∷ cap p (least p) ∷ [])
+    (count-same _ _ (p .epoch)
+    (λ j l. ap₂ (λ (n : ℕ) (s : State). ltb (firstTick p (e * p .epoch + j)) n && not (eqb (lengthOf (s .queues) (least p)) 0)) made (there (e * p .epoch + j) .0)))
+    (count-same _ _ (p .epoch)
+    (λ j l.
+    let k = e * p .epoch + j in
+    let shown : answerTo p (atTick p ws (firstTick p k)) 0 .turn ≡ plain p (plain-there p ws k) Tick .turn =
+    ap (λ (a : Answer). a .turn) (plainly p (atTick p ws (firstTick p k)) Tick (there k .1)) ∙ ap (λ (s : State). plain p s Tick .turn) (there k .0)
+    in
+    ap₂ (λ (n shown : ℕ). ltb (firstTick p k) n && eqb (shown % 256) (least p + 1)) made shown))
+
 turns-computed : Policy → List ℕ → List ℕ
 unfolding log-computed turnsIn
 turns-computed p ws = turnsIn (length ws) (log-computed p ws)
@@ -107,52 +168,39 @@ turns-from : (p : Policy) → inRange p ≡ true → (ws : List ℕ) → turnsFr
 unfolding turnsFrom turns-computed
 turns-from p given ws = ap (turnsIn (length ws)) (from-fresh p given ws)
 
-fits-alone : inRange alone ≡ true
-unfolding alone range-computed
-fits-alone = refl
-
-fits-pair : inRange pair ≡ true
-unfolding pair range-computed
-fits-pair = refl
-
-fits-fork : inRange fork ≡ true
-unfolding fork range-computed
-fits-fork = refl
-
-fits-spare : inRange spare ≡ true
-unfolding spare range-computed
-fits-spare = refl
-
-fits-chain : inRange chain ≡ true
-unfolding chain range-computed
-fits-chain = refl
-
-fits-full : inRange full ≡ true
-unfolding full range-computed
-fits-full = refl
-
-fits-printed : inRange (readFile (printed 0 2) .policy) ≡ true
-unfolding file-computed range-computed
-fits-printed = refl
+two-epochs : (p : Policy) → inRange p ≡ true → (ws : List ℕ) → twoEpochs p ws ≡ turns-computed p ws ++ owned-computed p ws 0 ++ owned-computed p ws 1
+unfolding twoEpochs
+two-epochs p given ws = ap₂ _++_ (ap₂ _++_ (turns-from p given ws) (least-owned p given ws 0)) (least-owned p given ws 1)
 
 -- ---- the table
 
 also : {xs ys : List ℕ} → {xss yss : List (List ℕ)} → xs ≡ ys → xss ≡ yss → xs ∷ xss ≡ ys ∷ yss
 also e es = ap₂ (λ (l : List ℕ) (ls : List (List ℕ)). l ∷ ls) e es
 
+-- that a policy of it is in range is computed too, and so is `refl`
 cases : map (λ (c : Case). c .yielded) table ≡ map (λ (c : Case). c .stated) table
-unfolding table alone pair fork chain full startOf turns-computed file-computed
+unfolding table alone pair fork chain full solo ladder filled between startOf turns-computed owned-computed file-computed range-computed eachTurn
 cases =
-    also (turns-from alone fits-alone (ticks 13))
-    (also (turns-from pair fits-pair (reads 3 0 ++ ticks 9))
-    (also (turns-from fork fits-fork (reads 3 0 ++ ticks 9))
-    (also (turns-from chain fits-chain (reads 3 0 ++ reads 3 1 ++ ticks 9))
-    (also (turns-from fork fits-fork (ticks 13))
-    (also (from-fresh alone fits-alone (reads 9 0 ++ ticks 1 ++ reads 1 0))
+    also (turns-from alone refl (ticks 13))
+    (also (turns-from pair refl (reads 3 0 ++ ticks 9))
+    (also (turns-from fork refl (reads 3 0 ++ ticks 9))
+    (also (turns-from chain refl (reads 3 0 ++ reads 3 1 ++ ticks 9))
+    (also (turns-from fork refl (ticks 13))
+    (also (from-fresh alone refl (reads 9 0 ++ ticks 1 ++ reads 1 0))
     (also refl
-    (also (from-fresh (readFile (printed 0 2) .policy) fits-printed (0x80010007 ∷ 0 ∷ 0 ∷ 0 ∷ []))
-    (also (turns-from full fits-full (reads 1 1 ++ ticks 17))
-    refl))))))))
+    (also (from-fresh (readFile (printed 0 2) .policy) refl (0x80010007 ∷ 0 ∷ 0 ∷ 0 ∷ []))
+    (also (turns-from full refl (reads 1 1 ++ ticks 17))
+    (also refl
+    (also refl
+    (also refl
+    (also refl
+    (also (two-epochs solo refl (eachTurn (reads 2 0) 6))
+    (also (two-epochs ladder refl (eachTurn (reads 2 0 ++ reads 2 1 ++ reads 2 2) 10))
+    (also (two-epochs ladder refl (eachTurn (reads 2 0) 10))
+    (also (two-epochs filled refl (eachTurn (reads 2 0) 8))
+    (also (two-epochs between refl (eachTurn (reads 2 1) 8))
+    (also (least-owned ladder refl (ticks 8 ++ reads 2 0 ++ ticks 12) 0)
+    refl))))))))))))))))))
 
 -- ---- (a)
 
@@ -207,5 +255,5 @@ e p given k lengths left pointers nobody =
     idle-ends p given lengths (leftTried p k (leftAtStart p k left)) nobody 16 pointers (firstClass p k) (le-of-lt (policy-laws p given .higher .few (firstClass p k)))
 
 pub worked-turns : WorkedTurns
-unfolding spare turns-computed everySecond
-worked-turns = record { cases = cases; customer = turns-from spare fits-spare (everySecond 4); a = a; e = e }
+unfolding spare turns-computed range-computed everySecond
+worked-turns = record { cases = cases; customer = turns-from spare refl (everySecond 4); a = a; e = e }

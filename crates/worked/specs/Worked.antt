@@ -1,18 +1,21 @@
--- Document 01's "Worked turns" (a) to (h), of which W-202 changes (c) and (d), and W-202's own: one table, whose cases the definitions yield. (a) and (e) speak of every turn, so they are stated of
+-- Document 01's "Worked turns" (a) to (h), of which W-202 changes (c) and (d), W-202's own and W-209's: one table, whose cases the definitions yield. (a) and (e) speak of every turn, so they are stated of
 -- every policy too.
 use mathlib.Core.Path.{_≡_}
-use mathlib.Core.Bool.{true, false}
+use mathlib.Core.Bool.{Bool, true, false, not, _&&_}
 use mathlib.Core.List.{List, [], _∷_, _++_, map}
 use Prim.Native.Nat.{ℕ, zero, suc, _+_, _*_}
-use lib.Dec.{eqb}
+use lib.Dec.{ltb, eqb}
 use lib.ListN.{length, getD, drop, replicate}
+use Rattle.basics.specs.Below.{count}
 use Rattle.file.specs.File.{readFile}
-use Rattle.policy.specs.Policy.{coversOf, inRange}
+use Rattle.policy.specs.Policy.{least, coversOf, cap, inRange}
 use Rattle.file.specs.Taken.{policyOf}
 use Rattle.policy.specs.declared.Policy.{Policy}
+use Rattle.queues.specs.Waiting.{lengthOf}
 use Rattle.rules.specs.Step.{startTurn}
 use Rattle.state.specs.Fresh.{zeros, freshState}
 use Rattle.rules.specs.Calls.{logOf}
+use Rattle.rules.specs.Guarantees.{ticksIn, atTick, firstTick, ownedIn}
 
 -- a policy by its rows, its epoch and its minimums, with the timing of the printed log
 unfoldable pub example : List ℕ → ℕ → List ℕ → ℕ → Policy
@@ -43,6 +46,22 @@ chain = example (7 ∷ 6 ∷ 4 ∷ []) 3 (0 ∷ 1 ∷ 1 ∷ []) 3
 unfoldable pub full : Policy
 full = example (1 ∷ 3 ∷ []) 2 (1 ∷ 1 ∷ []) 2
 
+-- W-209: one class alone, with a home turn
+unfoldable pub solo : Policy
+solo = example (1 ∷ []) 3 (1 ∷ []) 1
+
+-- a chain of three, where the least class has a home turn too
+unfoldable pub ladder : Policy
+ladder = example (7 ∷ 6 ∷ 4 ∷ []) 5 (1 ∷ 1 ∷ 1 ∷ []) 3
+
+-- 0 below 1 and 2, which are incomparable, and minimums that fill the epoch
+unfoldable pub filled : Policy
+filled = example (7 ∷ 2 ∷ 4 ∷ []) 4 (1 ∷ 2 ∷ 1 ∷ []) 3
+
+-- 1 below 0 and 2, which are incomparable: the least class is not number 0
+unfoldable pub between : Policy
+between = example (1 ∷ 7 ∷ 4 ∷ []) 4 (1 ∷ 0 ∷ 1 ∷ []) 3
+
 -- ---- traces and logs
 
 -- so many ticks, and so many offers of reads of a class, in bank 0
@@ -57,6 +76,11 @@ unfoldable pub everySecond : ℕ → List ℕ
 everySecond zero = []
 everySecond (suc n) = reads 1 0 ++ ticks 8 ++ everySecond n
 
+-- before each of so many turns these offers, and the ticks of the turn
+unfoldable pub eachTurn : List ℕ → ℕ → List ℕ
+eachTurn offers zero = []
+eachTurn offers (suc n) = offers ++ ticks 4 ++ eachTurn offers n
+
 -- the log of a trace, from the fresh state
 unfoldable pub logFrom : Policy → List ℕ → List ℕ
 logFrom p trace = logOf p (freshState p) trace
@@ -68,6 +92,17 @@ turnsIn (suc calls) log = elim (eqb (getD log 3 0) 0) [ true ↦ turnsIn calls (
 
 unfoldable pub turnsFrom : Policy → List ℕ → List ℕ
 turnsFrom p trace = turnsIn (length trace) (logFrom p trace)
+
+-- W-209: at how many turn starts of an epoch the least class has a request waiting, how many of the epoch's turns it owns, and its cap
+unfoldable pub waitsAt : Policy → List ℕ → ℕ → ℕ → Bool
+waitsAt p trace c k = ltb (firstTick p k) (ticksIn p trace) && not (eqb (lengthOf (atTick p trace (firstTick p k) .queues) c) 0)
+
+unfoldable pub leastOwned : Policy → List ℕ → ℕ → List ℕ
+leastOwned p trace e = count (p .epoch) (λ j. waitsAt p trace (least p) (e * p .epoch + j)) ∷ ownedIn p trace e (least p) ∷ cap p (least p) ∷ []
+
+-- the turn numbers of a trace of two epochs, and these numbers of each
+unfoldable pub twoEpochs : Policy → List ℕ → List ℕ
+twoEpochs p trace = turnsFrom p trace ++ leastOwned p trace 0 ++ leastOwned p trace 1
 
 -- one turn's start, by its number, how many of each class wait and the turns left before it: the number that it shows, and the turns left after it
 unfoldable pub startOf : Policy → ℕ → List ℕ → List ℕ → List ℕ
@@ -126,6 +161,23 @@ table =
     ∷ record { yielded = startOf chain 1 (1 ∷ 0 ∷ 0 ∷ []) (0 ∷ 2 ∷ 3 ∷ []); stated = 259 ∷ 0 ∷ 2 ∷ 2 ∷ [] }
     -- "An idle home class with nothing above it owns the turn and is charged.": 2 in turn 2, as in (d)
     ∷ record { yielded = startOf chain 2 (1 ∷ 1 ∷ 0 ∷ []) (0 ∷ 2 ∷ 3 ∷ []); stated = 3 ∷ 0 ∷ 2 ∷ 2 ∷ [] }
+    -- W-209: "a least class with a request waiting at every turn start of an epoch owns exactly its cap in that epoch": of two epochs the turn numbers, and then of each at how many of its E turn starts the least class has a
+    -- request waiting, how many of its turns it owns, and its cap. One class alone, E = 3, minimum 1: its cap is E.
+    ∷ record { yielded = twoEpochs solo (eachTurn (reads 2 0) 6); stated = 257 ∷ 257 ∷ 257 ∷ 257 ∷ 257 ∷ 257 ∷ 3 ∷ 3 ∷ 3 ∷ 3 ∷ 3 ∷ 3 ∷ [] }
+    -- a chain of three, E = 5, minimums 1, 1, 1, all always waiting. Turns 0 and 1 start at 0, turn 2 is its home turn, and 3 and 4 are those of the others: 0 owns 2 + 1, and its cap is 5 - 2. It drops before turns that start at it and before
+    -- the home turn of 1, as 1 does before that of 2; 2 keeps as in (d).
+    ∷ record {
+      yielded = twoEpochs ladder (eachTurn (reads 2 0 ++ reads 2 1 ++ reads 2 2) 10);
+      stated = 257 ∷ 257 ∷ 257 ∷ 258 ∷ 3 ∷ 257 ∷ 257 ∷ 257 ∷ 258 ∷ 3 ∷ 5 ∷ 3 ∷ 3 ∷ 5 ∷ 3 ∷ 3 ∷ [];
+    }
+    -- the same with 0 alone waiting: the idle home turn of 1 goes on up to 2, so 0 owns no turn more
+    ∷ record { yielded = twoEpochs ladder (eachTurn (reads 2 0) 10); stated = 257 ∷ 257 ∷ 257 ∷ 259 ∷ 3 ∷ 257 ∷ 257 ∷ 257 ∷ 259 ∷ 3 ∷ 5 ∷ 3 ∷ 3 ∷ 5 ∷ 3 ∷ 3 ∷ [] }
+    -- an antichain over a bottom with S = E, minimums 1, 2, 1: the least class owns its minimum and no more. It drops before a home turn of 1, and so does 1; 1 before that of 2, and 2 before that of 0, keep.
+    ∷ record { yielded = twoEpochs filled (eachTurn (reads 2 0) 8); stated = 257 ∷ 258 ∷ 2 ∷ 3 ∷ 257 ∷ 258 ∷ 2 ∷ 3 ∷ 4 ∷ 1 ∷ 1 ∷ 4 ∷ 1 ∷ 1 ∷ [] }
+    -- the least class is 1 and has no home turn, E = 4, minimums 1, 0, 1: turns 0 and 1 start at 1, and 2 and 3 are the home turns of 0 and 2, which keep
+    ∷ record { yielded = twoEpochs between (eachTurn (reads 2 1) 8); stated = 258 ∷ 258 ∷ 1 ∷ 3 ∷ 258 ∷ 258 ∷ 1 ∷ 3 ∷ 4 ∷ 2 ∷ 2 ∷ 4 ∷ 2 ∷ 2 ∷ [] }
+    -- a request at its home turn alone does not do: the chain of three again, where 0 has requests waiting as turn 2 starts and at no other turn's start. It owns 1 turn of its cap of 3.
+    ∷ record { yielded = leastOwned ladder (ticks 8 ++ reads 2 0 ++ ticks 12) 0; stated = 1 ∷ 1 ∷ 3 ∷ [] }
     ∷ []
 
 pub record WorkedTurns : Type 0 where

@@ -108,6 +108,12 @@ pub fn owners(log: &[u32]) -> Vec<(u32, bool)> {
         .collect()
 }
 
+/// The owners of a list that is run from the fresh state.
+pub fn picked(policy: &Policy, list: &[u32]) -> Vec<u32> {
+    let log = run_fresh(policy, list);
+    owners(&log).into_iter().map(|(owner, _)| owner).collect()
+}
+
 /// A list of some turns in which, before each turn, every class named gets as
 /// many offers as its queue has room for.
 pub fn always_waiting(policy: &Policy, classes: &[u8], turn_count: usize) -> Vec<u32> {

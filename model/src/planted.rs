@@ -76,8 +76,8 @@ pub enum Planted {
     /// Where the dead time is kept, it begins one cycle early.
     DeadTimeEarly,
     /// A class's cap is E less the minimums of all classes strictly above it and less its
-    /// own. In a list of calls from a fresh state each class owns what it did, and the log
-    /// stays; the promises on caps, held against these caps, are broken.
+    /// own. After a list of calls from a fresh state this shows in the turns left, and never
+    /// in the log; the promises on caps and turns left, held against these caps, are broken.
     CapLessOwnMinimum,
 }
 

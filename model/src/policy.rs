@@ -1,6 +1,5 @@
 //! "The policy file": reading it, and what follows from it.
 
-use crate::planted::Planted;
 use crate::refusal::Refusal;
 
 /// "up to 16 security classes"
@@ -121,17 +120,7 @@ impl Policy {
     pub fn in_range(&self) -> bool {
         self.first_refusal().is_none()
             && self.covers == covers_of_order(self)
-            && self.caps == caps_of_order(self, Planted::Nothing)
-    }
-
-    /// The same policy with its caps as a wrong rule counts them. All that goes by caps goes
-    /// by the stored ones, so the rule is in place everywhere but in 13, which would refuse
-    /// this policy. For tests.
-    pub(crate) fn with_caps_by(&self, planted: Planted) -> Policy {
-        Policy {
-            caps: caps_of_order(self, planted),
-            ..self.clone()
-        }
+            && self.caps == caps_of_order(self)
     }
 
     /// The first of 2 to 8 that refuses these numbers.
@@ -264,18 +253,13 @@ fn covers_of_order(policy: &Policy) -> Vec<Vec<usize>> {
 
 /// "A class's cap is E less the minimums of all classes strictly above it."
 /// Asked only where the sum of minimums is at most E, so nothing is cut off.
-fn caps_of_order(policy: &Policy, planted: Planted) -> Vec<u8> {
-    let taken_off = |class: usize, other: usize| match planted {
-        // Not a rule: broken promises that tests plant.
-        Planted::CapLessOwnMinimum => policy.flows(class, other),
-        _ => policy.strictly_below(class, other),
-    };
+fn caps_of_order(policy: &Policy) -> Vec<u8> {
     let cap = |class: usize| {
         policy
             .classes()
-            .filter(|&other| taken_off(class, other))
-            .fold(policy.epoch, |cap, other| {
-                cap.saturating_sub(policy.minimums[other])
+            .filter(|&above| policy.strictly_below(class, above))
+            .fold(policy.epoch, |cap, above| {
+                cap.saturating_sub(policy.minimums[above])
             })
     };
     policy.classes().map(cap).collect()
@@ -297,7 +281,7 @@ fn read_or_refuse(bytes: &[u8]) -> Result<Policy, Refusal> {
         return Err(refusal);
     }
     policy.covers = covers_of_order(&policy);
-    policy.caps = caps_of_order(&policy, Planted::Nothing);
+    policy.caps = caps_of_order(&policy);
     Ok(policy)
 }
 

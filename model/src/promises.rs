@@ -49,7 +49,7 @@ pub struct Broken {
 }
 
 /// How often the promises came to bear, and in what way.
-const COUNTED: [&str; 37] = [
+const COUNTED: [&str; 36] = [
     "minimums owed",
     "minimums owed to classes that are not least",
     "minimums owed to a least class",
@@ -73,7 +73,6 @@ const COUNTED: [&str; 37] = [
     "full caps owed among sixteen classes",
     "full caps owed to classes that are not number 0",
     "full caps owed in epochs after the first",
-    "least classes that wait at home, not throughout, and own less than their cap",
     "waits",
     "waits of classes that are not least",
     "waits where S is E",
@@ -132,9 +131,8 @@ pub fn search_planted(count: u64, planted: Planted) -> Search {
     };
     for seed in 0..count {
         let pair = pair(seed);
-        // Turns left are set to the caps that the rule in place counts, and the promises are
-        // held against those.
-        let policy = pair.policy.with_caps_by(planted);
+        // The promises are held against the same caps that turns left are set to.
+        let policy = with_caps_by(planted, &pair.policy);
         for (side, list) in pair.lists.iter().enumerate() {
             let turns = perform(&policy, pair.start.clone(), list, planted);
             let mut check = Check {
@@ -152,6 +150,20 @@ pub fn search_planted(count: u64, planted: Planted) -> Search {
         }
     }
     search
+}
+
+/// A policy with its caps as the rule in place counts them: all that goes by caps goes by the stored
+/// ones, but for 13, which is not asked here.
+fn with_caps_by(planted: Planted, policy: &Policy) -> Policy {
+    let mut policy = policy.clone();
+    // Not a rule: a broken promise that tests plant. The minimums sum up to at most E, so a cap is
+    // never below its class's own.
+    if planted == Planted::CapLessOwnMinimum {
+        for (cap, minimum) in policy.caps.iter_mut().zip(&policy.minimums) {
+            *cap -= minimum;
+        }
+    }
+    policy
 }
 
 /// A turn that started.
@@ -262,7 +274,7 @@ pub struct Changed {
 pub fn changed_by(count: u64, planted: Planted) -> Changed {
     let mut changed = Changed::default();
     for pair in (0..count).map(pair) {
-        let wrong_policy = pair.policy.with_caps_by(planted);
+        let wrong_policy = with_caps_by(planted, &pair.policy);
         for list in &pair.lists {
             let mut right = pair.start.clone();
             let mut wrong = pair.start.clone();
@@ -400,10 +412,6 @@ impl Check<'_> {
                 )
             });
             if promise == Promise::FullCapByHomeTurns {
-                self.search.met_if(
-                    owned < usize::from(cap),
-                    "least classes that wait at home, not throughout, and own less than their cap",
-                );
                 continue;
             }
             let mut others = (0..n).filter(|&class| class != least);
@@ -446,7 +454,7 @@ impl Check<'_> {
             let classes = self.minimum_of().into_iter();
             for (class, _) in classes.filter(|&(_, minimum)| minimum > 0) {
                 let at_start = |turn: &Turn| turn.classes[class].gone;
-                if within[0].classes[class].head.is_none() {
+                if !within[0].finds_waiting(class) {
                     continue;
                 }
                 let sooner = before.iter().any(|turn| turn.owner == class);

@@ -22,12 +22,7 @@ fn ordinary_search() -> &'static Search {
 
 /// What a wrong rule breaks.
 fn broken_by(planted: Planted) -> Vec<Promise> {
-    broken_within(PAIRS_ENOUGH, planted)
-}
-
-/// The same in so many pairs.
-fn broken_within(pairs: u64, planted: Planted) -> Vec<Promise> {
-    let search = search_planted(pairs, planted);
+    let search = search_planted(PAIRS_ENOUGH, planted);
     println!("{planted:?}: {:#?}", search.broken);
     let promised = |promise: &Promise| !NOT_PROMISED.contains(promise);
     search.broken.into_keys().filter(promised).collect()
@@ -97,16 +92,18 @@ fn finds_home_turns_that_nobody_is_charged_for() {
     assert!(broken.contains(&Promise::FullCap), "{broken:?}");
 }
 
-/// The caps are then smaller numbers, and each class owns what it did, since turns left decide nothing:
-/// no log shows this rule. It shows in that classes own more turns than these caps.
+/// The caps are then smaller numbers, and each class owns what it did: by these caps a class that is
+/// tried is without turns left only at its own home turn, which needs none, or where nothing is above
+/// it. Nor does a dead time change: the trial walk serves only before turns that start at the least
+/// class, which is the owner or has turns left there. So no log of a list from fresh shows this rule.
+/// It shows in that classes own more turns than these caps, and have none left where a walk can come
+/// to them.
 #[test]
 fn finds_a_cap_less_the_classs_own_minimum() {
     let planted = Planted::CapLessOwnMinimum;
     changes_turns_left_alone(planted);
     let broken = [Promise::Cap, Promise::FullCap, Promise::TurnsLeft];
     assert_eq!(broken_by(planted), broken);
-    // Nine pairs show all three.
-    assert_eq!(broken_within(9, planted), broken);
 }
 
 /// A least class that waits throughout then owns less than its cap. No other promise says that it must

@@ -1,4 +1,4 @@
-"""What `vig policy check` says of minimums and home turns, held against runs by the proved library."""
+"""What `vig policy check` says of minimums, home turns and the least class's cap, held against runs by the proved library."""
 
 from collections import deque
 
@@ -130,8 +130,8 @@ class Promises(Case):
         self.assertGreater(alone, 0)
 
     def test_the_full_cap(self):
-        """The least class owns its cap of an epoch, neither more nor less, if it has a request waiting as each of its turns starts; if it has not, it may own less."""
-        owed = capped = less = 0
+        """The least class owns its cap of an epoch, neither more nor less, if it has a request waiting as each turn of the epoch starts; if it has not, it may own less."""
+        owed = capped = none = less = 0
         for ran, policy, turns in self.runs():
             least, cap = policy.least, policy.cap(policy.least)
             for epoch, owned in enumerate(figures_of(ran).turns_in_epochs(least)):
@@ -139,10 +139,12 @@ class Promises(Case):
                 if all(start[least] for start in starts):
                     self.assertEqual(owned, cap)
                     owed += 1
-                    capped += cap < policy.epoch
+                    capped += 0 < cap < policy.epoch
+                    none += cap == 0
                 less += owned < cap
         self.assertGreater(owed, 100)
         self.assertGreater(capped, 50)
+        self.assertGreater(none, 0)
         self.assertGreater(less, 50)
 
     def test_the_oldest_request_goes_out(self):
@@ -180,18 +182,25 @@ class Words(Case):
             self.assertTrue(class_words(Policy([7, 6, 4], 4, minimums, TIMING), CHAIN_NAMES, 0).startswith(words), words)
 
     def test_of_the_least_class(self):
-        exactly = "low, the least class, owns exactly %s, its cap, of an epoch in which it has a request waiting as each turn starts"
-        for rows, minimums, words in (
-            ([7, 6, 4], [0, 1, 1], exactly % "2 turns"),
-            ([7, 6, 4], [1, 2, 1], exactly % "1 turn"),
-            ([7, 6, 4], [4, 0, 0], exactly % "4 turns"),
-            ([7, 6, 4], [0, 3, 1], "low, the least class, owns no turn: the home turns of others fill the epoch, and its cap is 0"),
-            ([1, 3], [1, 0], (exactly % "3 turns").replace("low", "middle")),
-            ([1], [1], "low, the one class, owns every turn"),
+        exactly = "%s, the least class, owns exactly %s, its cap, of an epoch in which it has a request waiting as each of the 4 turns starts"
+        none = "low, the least class, owns no turn: the home turns of others fill the epoch, and its cap is 0"
+        for rows, epoch, minimums, words in (
+            ([7, 6, 4], 4, [0, 1, 1], [exactly % ("low", "2 turns")]),
+            ([7, 6, 4], 4, [1, 0, 1], [exactly % ("low", "3 turns")]),
+            ([7, 6, 4], 4, [1, 0, 0], [exactly % ("low", "4 turns")]),
+            ([7, 6, 4], 4, [0, 2, 1], [exactly % ("low", "1 turn")]),
+            ([7, 6, 4], 4, [1, 2, 1], []),
+            ([7, 6, 4], 4, [4, 0, 0], []),
+            ([7, 6, 4], 4, [0, 3, 1], [none]),
+            ([3, 2], 1, [1, 0], []),
+            ([3, 2], 1, [0, 1], [none]),
+            ([1, 3], 4, [1, 0], [exactly % ("middle", "3 turns")]),
+            ([1], 4, [1], ["low, the one class, owns every turn"]),
         ):
-            policy = Policy(rows, 4, minimums, TIMING)
+            policy = Policy(rows, epoch, minimums, TIMING)
             self.assertEqual(least_words(policy, CHAIN_NAMES), words)
-            self.assertEqual(minimum_words(policy, CHAIN_NAMES).count("- %s." % words), 1)
+            said = [line for line in minimum_words(policy, CHAIN_NAMES) if "the least class, owns" in line or "the one class, owns" in line]
+            self.assertEqual(said, ["- %s." % word for word in words])
 
     def test_of_the_wait(self):
         own, goes = wait_words(CHAIN)

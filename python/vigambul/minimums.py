@@ -1,5 +1,5 @@
-"""What a minimum does and guarantees under the rules in force: document 01 with requests W-202 and W-209 of document 02. The one place that says it: a request that changes the
-rules changes this text."""
+"""What minimums and caps do and guarantee under the rules in force: document 01 with requests W-202 and W-209 of document 02. The one place that says it: a request that changes
+the rules changes this text."""
 
 from .words import counted
 
@@ -45,13 +45,16 @@ def class_words(policy, names, number):
 
 
 def least_words(policy, names):
-    """What the least class may count on in an epoch, minimum or not."""
+    """What the least class may count on in an epoch, beside what its minimum gives: none or one promise."""
+    name, cap = names.of(policy.least), policy.cap(policy.least)
     if policy.classes == 1:
-        return "%s, the one class, owns every turn" % names.of(policy.least)
-    cap = policy.cap(policy.least)
+        return ["%s, the one class, owns every turn" % name]
     if cap == 0:
-        return "%s, the least class, owns no turn: the home turns of others fill the epoch, and its cap is 0" % names.of(policy.least)
-    return "%s, the least class, owns exactly %s, its cap, of an epoch in which it has a request waiting as each turn starts" % (names.of(policy.least), counted(cap, "turn"))
+        return ["%s, the least class, owns no turn: the home turns of others fill the epoch, and its cap is 0" % name]
+    if cap == policy.minimums[policy.least]:
+        return []  # a minimum that is the cap says it already
+    starts = "as each of the %d turns starts" % policy.epoch
+    return ["%s, the least class, owns exactly %s, its cap, of an epoch in which it has a request waiting %s" % (name, counted(cap, "turn"), starts)]
 
 
 def wait_words(policy):
@@ -77,5 +80,5 @@ def minimum_words(policy, names):
     lines = RULE.splitlines()
     if not given(policy):
         return lines + [none_words(policy, names)]
-    promises = [class_words(policy, names, number) for number in given(policy)] + [least_words(policy, names)] + wait_words(policy)
+    promises = [class_words(policy, names, number) for number in given(policy)] + least_words(policy, names) + wait_words(policy)
     return lines + ["Here, in every run and whatever the other classes do:"] + ["- %s." % promise for promise in promises]

@@ -56,7 +56,7 @@ def sign_off(policy, names):
     parts = (
         ("Flows: a class in a row may flow to the classes with a yes", flow_table(policy, names) + [""] + flow_words(policy, names)),
         ("Turns: an epoch of %d; minimums add up to %d" % (policy.epoch, sum(policy.minimums)), turn_table(policy, names) + ["", plan_words(policy, names)]),
-        ("What a minimum does and guarantees", minimum_words(policy, names)),
+        ("What minimums and caps do and guarantee", minimum_words(policy, names)),
         ("Timing, in cycles", timing_table(policy)),
     )
     lines = []

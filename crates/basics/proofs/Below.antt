@@ -234,12 +234,12 @@ count-apart f g (suc n) h =
     (λ (t : f n ≡ false). ⊎-elim (λ (u : g n ≡ true). rw (t, u) (omega (arith, rest))) (λ (u : g n ≡ false). rw (t, u) (omega (arith, rest))) (either (g n)))
     (either (f n))
 
--- where one of them passes at each number, they pass at no fewer
-pub count-cover : (f g : ℕ → Bool) (n : ℕ) → ((i : ℕ) → i < n → (f i ≡ true) ⊎ (g i ≡ true)) → n ≤ count n f + count n g
+-- where one of two tests passes at each number, they pass at no fewer numbers than there are
+pub count-either : (f g : ℕ → Bool) (n : ℕ) → ((i : ℕ) → i < n → (f i ≡ true) ⊎ (g i ≡ true)) → n ≤ count n f + count n g
 unfolding count sum
-count-cover f g zero h = zero-le
-count-cover f g (suc n) h =
-    let rest = count-cover f g n (λ i l. h i (omega arith)) in
+count-either f g zero h = zero-le
+count-either f g (suc n) h =
+    let rest = count-either f g n (λ i l. h i (omega arith)) in
     ⊎-elim (λ t. rw t (omega (arith, rest))) (λ t. rw t (omega (arith, rest))) (h n (le-refl (suc n)))
 
 pub sum-under : (f g : ℕ → ℕ) (n : ℕ) → ((i : ℕ) → i < n → f i ≤ g i) → sum n f ≤ sum n g

@@ -1,5 +1,5 @@
--- W-202's promises hold of every policy in range. A class with a request waiting owns its home turns, and a traversal comes to a class in no more turns of an epoch than its cap: so the plan's counts bound the turns that a class owns from
--- below and from above. A class's requests go in its own turns alone, so what waits still waits at its next home turn, which is at most an epoch away. And in a turn of its own, dead time less one after the start, nothing holds the head back
+-- W-202's promises, and W-209's, hold of every policy in range. A class with a request waiting owns its home turns, and a traversal comes to a class in no more turns of an epoch than its cap: so the plan's counts bound the turns that a class owns from
+-- below and from above. A least class that always waits owns every turn but the home turns above it, so it meets the bound from above. A class's requests go in its own turns alone, so what waits still waits at its next home turn, which is at most an epoch away. And in a turn of its own, dead time less one after the start, nothing holds the head back
 -- any more: no gap is longer, and no earlier column command is due so late.
 -- Assumes nothing.
 use mathlib.Core.Path.{_≡_, refl, sym, ap, _∙_, subst}
@@ -19,7 +19,7 @@ use Rattle.policy.specs.Policy.{isClass, flows, strictly, least, cap, minimum, 
 use Rattle.policy.specs.declared.Policy.{Policy}
 use Rattle.basics.proofs.Truth.{either, false-unless, and-left, and-right, and-both, or-right}
 use Rattle.basics.proofs.Stores.{stored-at}
-use Rattle.basics.proofs.Below.{count-under, count-cover}
+use Rattle.basics.proofs.Below.{count-under, count-either}
 use Rattle.order.proofs.Orders.{apart-strictly}
 use Rattle.policy.proofs.Laws.{policy-laws}
 use Rattle.requests.specs.Word.{kindOf, bankOf, commandNumber}
@@ -38,7 +38,6 @@ use Rattle.rules.specs.History.{Activates}
 use Rattle.rules.specs.Call.{busAt, afterTick}
 use Rattle.rules.specs.Calls.{Answer, lineOf, answerTo, logOf}
 use Rattle.rules.specs.Guarantees.{ticksIn, atTick, TickMade, firstTick, Started, Ended, Waits, headAt, owns, ownedIn, ActivatedIn, OwnTurn, Guarantees}
-use Rattle.rules.proofs.Traversal.{first-least}
 use Rattle.rules.proofs.Wire.{gap-shift, kind-small}
 use Rattle.rules.proofs.PendingWords.{inside}
 use Rattle.rules.proofs.Step.{drive-column, drive-nothing, drive-activate}
@@ -63,62 +62,60 @@ module _ (p : Policy) (given : policyInRange p ≡ true) where
 
     -- ---- in an epoch
 
-    module _ (e c : ℕ) (class : isClass p c ≡ true) where
+    module _ (e : ℕ) where
       abbrev turn-of : ℕ → ℕ
       turn-of j = e * p .epoch + j
 
-      -- at least its minimum: its home turns are its own
-      at-least : ((j : ℕ) → j < p .epoch → homeTurn p (turn-of j) ≡ true → homeClass p (turn-of j) ≡ c → Started p ws (turn-of j) × Waits p ws (turn-of j) c) → minimum p c ≤ ownedIn p ws e c
-      unfolding ownedIn
-      at-least waits =
-          subst (λ (m : ℕ). m ≤ count (p .epoch) (λ j. owns p ws c (turn-of j))) (policy-laws p given .homes .as-its-minimum c class)
-          (count-under (λ j. homeTurn p j && eqb (homeClass p j) c) (λ j. owns p ws c (turn-of j)) (p .epoch)
-          (λ j l t.
-          let home : homeTurn p (turn-of j) ≡ true = list.in-epoch p given e j .0 ∙ and-left (homeTurn p j) (eqb (homeClass p j) c) t in
-          let its : homeClass p (turn-of j) ≡ c = list.in-epoch p given e j .1 ∙ eqb-true (homeClass p j) c (and-right (homeTurn p j) (eqb (homeClass p j) c) t) in
-          let there = waits j l home its in
-          list.owning p given ws (turn-of j) c (there .0) (list.owns-home p given ws (turn-of j) (there .0) home (subst (Waits p ws (turn-of j)) (sym its) (there .1)) ∙ its)))
+      module _ (c : ℕ) (class : isClass p c ≡ true) where
+        -- at least its minimum: its home turns are its own
+        at-least : ((j : ℕ) → j < p .epoch → homeTurn p (turn-of j) ≡ true → homeClass p (turn-of j) ≡ c → Started p ws (turn-of j) × Waits p ws (turn-of j) c) → minimum p c ≤ ownedIn p ws e c
+        unfolding ownedIn
+        at-least waits =
+            subst (λ (m : ℕ). m ≤ count (p .epoch) (λ j. owns p ws c (turn-of j))) (policy-laws p given .homes .as-its-minimum c class)
+            (count-under (λ j. homeTurn p j && eqb (homeClass p j) c) (λ j. owns p ws c (turn-of j)) (p .epoch)
+            (λ j l t.
+            let home : homeTurn p (turn-of j) ≡ true = list.in-epoch p given e j .0 ∙ and-left (homeTurn p j) (eqb (homeClass p j) c) t in
+            let its : homeClass p (turn-of j) ≡ c = list.in-epoch p given e j .1 ∙ eqb-true (homeClass p j) c (and-right (homeTurn p j) (eqb (homeClass p j) c) t) in
+            let there = waits j l home its in
+            list.owns-at-home p given ws (turn-of j) c (there .0) home its (there .1)))
 
-      -- at most its cap: a traversal comes to it in no more turns
-      at-most : ownedIn p ws e c ≤ cap p c
-      unfolding ownedIn
-      at-most =
-          le-trans
-          (count-under (λ j. owns p ws c (turn-of j)) (λ j. list.comes p given c (turn-of j)) (p .epoch)
-          (λ j l own. subst (λ (x : ℕ). flows p (firstClass p (turn-of j)) x ≡ true) (list.owned p given ws (turn-of j) c own) (list.from-first p given ws (turn-of j))))
-          (list.few-come p given e c class)
+        -- at most its cap: a traversal comes to it in no more turns
+        at-most : ownedIn p ws e c ≤ cap p c
+        unfolding ownedIn
+        at-most =
+            le-trans
+            (count-under (λ j. owns p ws c (turn-of j)) (λ j. list.comes p given c (turn-of j)) (p .epoch)
+            (λ j l own. subst (λ (x : ℕ). flows p (firstClass p (turn-of j)) x ≡ true) (list.owned p given ws (turn-of j) c own) (list.from-first p given ws (turn-of j))))
+            (list.few-come p given e c class)
 
-    -- W-209: exactly its cap, of the least class. The E - S turns that are no home turns start at the least class and are its, as it has a turn left: its cap is E less the other minimums, so at least E - S, and it is charged for these
-    -- turns alone. Of the home turns its own are its. That is E - S plus its minimum, which is its cap: every turn of the epoch is its or a home turn of a class above.
-    module _ (e : ℕ) (waits : (j : ℕ) → j < p .epoch → Started p ws (e * p .epoch + j) × Waits p ws (e * p .epoch + j) (least p)) where
-      its-or-higher : (j : ℕ) → j < p .epoch → (owns p ws (least p) (e * p .epoch + j) ≡ true) ⊎ (list.higher-home p given (least p) j ≡ true)
-      unfolding strictly flows
-      its-or-higher j l =
-          let laws = policy-laws p given in
-          let c = least p in
-          let k = e * p .epoch + j in
-          let there = waits j l in
-          let plan = list.in-epoch p given e j in
-          ⊎-elim
-          (λ home.
-          ⊎-elim
-          (λ same.
-          let its : homeClass p k ≡ c = plan .1 ∙ sym (eqb-true c (homeClass p j) same) in
-          inl (list.owning p given ws k c (there .0) (list.owns-home p given ws k (there .0) (plan .0 ∙ home) (subst (Waits p ws k) (sym its) (there .1)) ∙ its)))
-          (λ apart.
-          inr (and-both home (apart-strictly (p .rows) c (homeClass p j) (laws .lowest .is-least (homeClass p j) (laws .homes .of-class j home)) (eqb-false c (homeClass p j) apart))))
-          (either (eqb c (homeClass p j))))
-          (λ other.
-          let free = plan .0 ∙ other in
-          let tried : flows p (firstClass p k) c ≡ true = subst (λ (x : ℕ). flows p x c ≡ true) (sym (first-least p k free)) (laws .order .reflexive c (laws .lowest .is-class)) in
-          inl (list.owning p given ws k c (there .0) (list.owns-other p given ws k free (there .1) (caps-suffice p given .some-left ws k c (there .0) tried))))
-          (either (homeTurn p j))
+      -- W-209: exactly its cap, of the least class. The E - S turns that are no home turns start at the least class and are its, as it has a turn left there: its cap is E less the other minimums, so at least E - S, and it is charged for these
+      -- turns alone. Of the home turns its own are its. That is E - S plus its minimum, which is its cap. It is counted from the other side: every turn is its own or a home turn of a class above, and its cap is E less those.
+      module _ (waits : (j : ℕ) → j < p .epoch → Started p ws (turn-of j) × Waits p ws (turn-of j) (least p)) where
+        its-or-higher : (j : ℕ) → j < p .epoch → (owns p ws (least p) (turn-of j) ≡ true) ⊎ (list.higher-home p given (least p) j ≡ true)
+        unfolding strictly flows
+        its-or-higher j l =
+            let laws = policy-laws p given in
+            let c = least p in
+            let k = turn-of j in
+            let there = waits j l in
+            let plan = list.in-epoch p given e j in
+            ⊎-elim
+            (λ home.
+            ⊎-elim
+            (λ same. inl (list.owns-at-home p given ws k c (there .0) (plan .0 ∙ home) (plan .1 ∙ sym (eqb-true c (homeClass p j) same)) (there .1)))
+            (λ apart.
+            inr (and-both home (apart-strictly (p .rows) c (homeClass p j) (laws .lowest .is-least (homeClass p j) (laws .homes .of-class j home)) (eqb-false c (homeClass p j) apart))))
+            (either (eqb c (homeClass p j))))
+            (λ other.
+            let free = plan .0 ∙ other in
+            inl (list.least-owns p given ws k (there .0) free (there .1) (caps-suffice p given .some-left ws k c (there .0) (list.comes-to-least p given k free))))
+            (either (homeTurn p j))
 
-      no-less : cap p (least p) ≤ ownedIn p ws e (least p)
-      unfolding ownedIn
-      no-less =
-          let all = count-cover (λ j. owns p ws (least p) (e * p .epoch + j)) (list.higher-home p given (least p)) (p .epoch) its-or-higher in
-          omega (arith, all, list.all-but-higher p given (least p) (policy-laws p given .lowest .is-class))
+        no-less : cap p (least p) ≤ ownedIn p ws e (least p)
+        unfolding ownedIn
+        no-less =
+            let all = count-either (λ j. owns p ws (least p) (turn-of j)) (list.higher-home p given (least p)) (p .epoch) its-or-higher in
+            omega (arith, all, list.all-but-higher p given (least p) (policy-laws p given .lowest .is-class))
 
     -- ---- a turn of its own
 
@@ -141,8 +138,7 @@ module _ (p : Policy) (given : policyInRange p ≡ true) where
         let begins = subst (Started p ws) here l in
         let is : homeTurn p k ≡ true = subst (λ (j : ℕ). homeTurn p j ≡ true) here home in
         let same : homeClass p k ≡ c = subst (λ (j : ℕ). homeClass p j ≡ c) here its in
-        let mine : owner k ≡ c = list.owns-home p given ws k begins is (subst (Waits p ws k) (sym same) waits) ∙ same in
-        record { turn = k; not-before = le-refl k; within = omega arith; own = list.owning p given ws k c begins mine; first = none-before c k; waits = waits; same-head = refl }
+        record { turn = k; not-before = le-refl k; within = omega arith; own = list.owns-at-home p given ws k c begins is same waits; first = none-before c k; waits = waits; same-head = refl }
     until-home c (suc d) k l home its waits =
         let next : k + suc d ≡ k + 1 + d = omega arith in
         ⊎-elim

@@ -1,7 +1,8 @@
 -- The turns of a list of calls from fresh, by their numbers. In an epoch a traversal can come to a class in no more turns than the class's cap, since the home turns of classes strictly above are not among them. A turn's start
--- picks an owner that its first class may flow to, a home turn's class if a request of it waits, and the log names the owner, who has every tick of the turn. So a class that does not own a turn loses no request in it.
+-- picks an owner that its first class may flow to: a home turn's class if a request of it waits, and at another turn the least class if one of it waits and it has a turn left. The log names the owner, who has every tick of the turn.
+-- So a class that does not own a turn loses no request in it.
 -- Assumes nothing.
-use mathlib.Core.Path.{_≡_, sym, ap, ap₂, _∙_, subst}
+use mathlib.Core.Path.{_≡_, sym, ap, _∙_, subst}
 use mathlib.Core.Logic.{_≢_}
 use mathlib.Core.Bool.{Bool, true, false, not, _&&_}
 use mathlib.Core.List.{List}
@@ -15,7 +16,7 @@ use Rattle.basics.specs.Below.{count}
 use Rattle.turns.specs.Turns.{minimumsAbove}
 use Rattle.policy.specs.Policy.{isClass, flows, strictly, least, cap, minimum, homeTurn, homeClass, inRange as policyInRange}
 use Rattle.policy.specs.declared.Policy.{Policy}
-use Rattle.basics.proofs.Truth.{and-left, and-right, and-both, or-left, on-true, on-false}
+use Rattle.basics.proofs.Truth.{and-left, and-right, and-both, on-true, on-false}
 use Rattle.basics.proofs.Below.{count-apart}
 use Rattle.order.proofs.Orders.{strictly-flows, strictly-apart}
 use Rattle.policy.proofs.Laws.{policy-laws}
@@ -24,12 +25,12 @@ use Rattle.queues.specs.Waiting.{lengthOf}
 use Rattle.state.specs.Fresh.{stateAtStart, freshState}
 use Rattle.state.specs.declared.State.{State}
 use Rattle.state.specs.declared.Turns.{Turns}
-use Rattle.rules.specs.Traversal.{firstClass, candidates, takesBy, takes, Reached, endsAt, tryClass, leftTried, takesHome}
+use Rattle.rules.specs.Traversal.{firstClass, Reached, endsAt, leftTried, takesHome}
 use Rattle.rules.specs.Step.{turnStarts, turnNumber, leftAtStart, turnWord, TurnStart, ownedBy, startTurn, turnsAt, Bus, drive}
 use Rattle.rules.specs.Call.{busAt, afterTick}
 use Rattle.rules.specs.Calls.{Answer, ticked, answerTo, stateAfter}
 use Rattle.rules.specs.Guarantees.{ticksIn, atTick, firstTick, Started, Waits, owns}
-use Rattle.rules.proofs.Traversal.{try-takes, first-home, first-least, tried-other, first-class, home-takes, ascends}
+use Rattle.rules.proofs.Traversal.{first-home, first-least, least-takes, first-class, home-takes, ascends}
 use Rattle.rules.proofs.Queue.{dequeue-else, dequeue-apart}
 use Rattle.rules.proofs.Step.{outcome}
 use Rattle.rules.proofs.TurnsKept.{start-within}
@@ -83,15 +84,21 @@ module _ (p : Policy) (given : policyInRange p ≡ true) where
   abbrev pub comes : ℕ → ℕ → Bool
   comes c k = flows p (firstClass p k) c
 
+  -- in a turn that is no home turn it can come to the least class
+  pub comes-to-least : (k : ℕ) → homeTurn p k ≡ false → comes (least p) k ≡ true
+  comes-to-least k other =
+      let laws = policy-laws p given in
+      subst (λ (x : ℕ). flows p x (least p) ≡ true) (sym (first-least p k other)) (laws .order .reflexive (least p) (laws .lowest .is-class))
+
   -- turn j of epoch e is in the plan what turn j is
   pub in-epoch : (e j : ℕ) → (homeTurn p (e * p .epoch + j) ≡ homeTurn p j) × (homeClass p (e * p .epoch + j) ≡ homeClass p j)
   in-epoch e j = policy-laws p given .homes .every-epoch (e * p .epoch + j) j (mul-add-mod-self-right e (p .epoch) j)
 
-  -- turn j of an epoch is a home turn of a class strictly above
+  -- turn j of an epoch is a home turn of a class strictly above class c
   abbrev pub higher-home : ℕ → ℕ → Bool
   higher-home c j = homeTurn p j && strictly p c (homeClass p j)
 
-  -- in such a turn it does not come to the class
+  -- in such a turn the traversal does not come to class c
   not-above : (e c j : ℕ) → comes c (e * p .epoch + j) ≡ true → higher-home c j ≡ true → ⊥
   unfolding strictly flows
   not-above e c j comes-there t =
@@ -101,7 +108,7 @@ module _ (p : Policy) (given : policyInRange p ≡ true) where
       let down : flows p (homeClass p j) c ≡ true = subst (λ (x : ℕ). flows p x c ≡ true) (first-home p there home ∙ in-epoch e j .1) comes-there in
       strictly-apart (p .rows) c (homeClass p j) higher (policy-laws p given .order .antisymmetric c (homeClass p j) (strictly-flows (p .rows) c (homeClass p j) higher) down)
 
-  -- a class's cap and the home turns of those strictly above are together the epoch
+  -- a class's cap and the home turns of classes strictly above make up the epoch
   pub all-but-higher : (c : ℕ) → isClass p c ≡ true → cap p c + count (p .epoch) (higher-home c) ≡ p .epoch
   unfolding strictly minimumsAbove minimum
   all-but-higher c class =
@@ -207,18 +214,19 @@ module _ (p : Policy) (given : policyInRange p ≡ true) where
           let taken : takesHome p k lengths ≡ true = and-both home (ap not (ne-eqb (getD lengths (homeClass p k) 0) 0 waits)) in
           ap (λ (r : Reached). r .owner) (home-takes p given k lengths left long taken 16 (there .turns .pointers)) ∙ first-home p k home
 
-      -- the least class, with a request waiting and a turn left, owns a turn that is no home turn
-      pub owns-other : homeTurn p k ≡ false → Waits p ws k (least p) → 1 ≤ getD (leftAtStart p k (there .turns .left)) (least p) 0 → owner ≡ least p
-      unfolding startTurn ownedBy endsAt takes takesBy lengthOf
-      owns-other other waits some =
-          let c = least p in
+      -- so the log names the class
+      pub owns-at-home : (c : ℕ) → Started p ws k → homeTurn p k ≡ true → homeClass p k ≡ c → Waits p ws k c → owns p ws c k ≡ true
+      owns-at-home c l home its waits = owning c l (owns-home l home (subst (Waits p ws k) (sym its) waits) ∙ its)
+
+      -- and a turn that is no home turn is the least class's, if a request of it waits and it has a turn left
+      pub least-owns : Started p ws k → homeTurn p k ≡ false → Waits p ws k (least p) → 1 ≤ getD (leftAtStart p k (there .turns .left)) (least p) 0 → owns p ws (least p) k ≡ true
+      unfolding startTurn ownedBy endsAt lengthOf
+      least-owns l other waits some =
           let lengths = there .queues .lengths in
           let left = leftAtStart p k (there .turns .left) in
-          let all = candidates (p .covers) lengths left in
-          let has-left : eqb (getD left c 0) 0 ≡ false = ne-eqb (getD left c 0) 0 (λ none. not-suc-le-zero {n = 0} (omega (arith, some, none))) in
-          let takes-it : takes all c ≡ true = or-left (not (eqb (getD lengths c 0) 0) && not (eqb (getD left c 0) 0)) (eqb (getD (p .covers) c 0) 0) (and-both (ap not (ne-eqb (getD lengths c 0) 0 waits)) (ap not has-left)) in
-          ap₂ (λ (tried : List ℕ) (first : ℕ). tryClass 16 (candidates (p .covers) lengths tried) (there .turns .pointers) first .owner) (tried-other p k left other) (first-least p k other)
-          ∙ ap (λ (r : Reached). r .owner) (try-takes all 16 (there .turns .pointers) c takes-it)
+          let has-left : eqb (getD left (least p) 0) 0 ≡ false = ne-eqb (getD left (least p) 0) 0 (λ none. not-suc-le-zero {n = 0} (omega (arith, some, none))) in
+          owning (least p) l
+          (ap (λ (r : Reached). r .owner) (least-takes p k lengths left other (ne-eqb (getD lengths (least p) 0) 0 waits) has-left 16 (there .turns .pointers)) ∙ first-least p k other)
 
     -- ---- from tick to tick
 

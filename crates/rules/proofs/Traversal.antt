@@ -181,6 +181,12 @@ module _ (p : Policy) where
   unfolding leftTried
   tried-other k left e = rw e
 
+  -- such a turn is taken by the least class where a request of it waits and it has a turn left
+  pub least-takes : (k : ℕ) (lengths left : List ℕ) → homeTurn p k ≡ false → eqb (getD lengths (least p) 0) 0 ≡ false → eqb (getD left (least p) 0) 0 ≡ false → (bound : ℕ) (pointers : List ℕ) → tryClass bound (candidates (p .covers) lengths (leftTried p k left)) pointers (firstClass p k) ≡ endsAt pointers (firstClass p k)
+  unfolding takes takesBy
+  least-takes k lengths left other waits some bound pointers =
+      try-takes (candidates (p .covers) lengths (leftTried p k left)) bound pointers (firstClass p k) (rw (first-least k other, tried-other k left other, waits, some) refl)
+
   -- where none waits its turns left make no difference, so the traversal is the one by the turns left as they are
   idle-takes : (k : ℕ) (lengths left : List ℕ) → takesHome p k lengths ≡ false → (c : ℕ) → takes (candidates (p .covers) lengths (leftTried p k left)) c ≡ takes (candidates (p .covers) lengths left) c
   unfolding takesHome leftTried takes takesBy

@@ -26,7 +26,6 @@ use Rattle.rules.specs.Lookahead.{nextLeft, goesOn, aheadOf}
 use Rattle.rules.specs.Step.{leftAtStart, turnWord, TurnStart, ownedBy, startTurn}
 use Rattle.rules.specs.Calls.{answerTo}
 use Rattle.rules.specs.Guarantees.{ticksIn, atTick, firstTick, Started, owns, CapsSuffice}
-use Rattle.rules.proofs.Traversal.{first-least}
 use Rattle.rules.proofs.PendingWords.{inside}
 use Rattle.rules.proofs.Lookahead.{elides-other, reach-here, reach-fails}
 use Rattle.rules.proofs.Calendar.{next-wraps}
@@ -170,7 +169,6 @@ module _ (p : Policy) (given : policyInRange p ≡ true) where
           let laws = policy-laws p given in
           let c = least p in
           let class = laws .lowest .is-class in
-          let tried-there : flows p (firstClass p (k + 1)) c ≡ true = subst (λ (x : ℕ). flows p x c ≡ true) (sym (first-least p (k + 1) other)) (laws .order .reflexive c class) in
           let free : (k + 1) % p .epoch + minimumsSum (p .minimums) < p .epoch =
           ⊎-elim (λ few. few) (λ many. absurd (not-both (laws .homes .the-last (k + 1) .1 many) other)) (lt-or-ge ((k + 1) % p .epoch + minimumsSum (p .minimums)) (p .epoch))
           in
@@ -182,7 +180,7 @@ module _ (p : Policy) (given : policyInRange p ≡ true) where
           in
           let split : 1 + (later - 1) ≡ later = omega (arith, more) in
           let after = enough-after c k later l (enough-here c class l) in
-          let some = subst (λ (x : ℕ). 1 ≤ ahead c (k + 1) x) split (some-ahead c (k + 1) (later - 1) tried-there) in
+          let some = subst (λ (x : ℕ). 1 ≤ ahead c (k + 1) x) split (some-ahead c (k + 1) (later - 1) (list.comes-to-least p given (k + 1) other)) in
           omega (arith, some, after)
           in
           ⊎-elim

@@ -1,4 +1,4 @@
--- W-202's promises, what a minimum guarantees, and W-209's, what the least class's cap does. They are said of every list of calls from fresh, and of what its log shows. W-202's last one, on what a class learns, is
+-- W-202's promises, on what a minimum guarantees, and W-209's, on the least class's cap. They are said of every list of calls from fresh, and of what its log shows. W-202's last one, on what a class learns, is
 -- `Noninterference` (crate `noninterference`).
 use mathlib.Core.Path.{_≡_}
 use mathlib.Core.Bool.{Bool, true, false, _&&_}
@@ -99,7 +99,7 @@ pub record Guarantees (p : Policy) : Type 0 where
       → minimum p c ≤ ownedIn p ws e c
   -- "every class owns at most its cap"
   pub at-most-its-cap : (ws : List ℕ) (e c : ℕ) → isClass p c ≡ true → ownedIn p ws e c ≤ cap p c
-  -- W-209: "a least class with a request waiting at every turn start of an epoch owns exactly its cap in that epoch"
+  -- W-209: "a least class with a request waiting at every turn start of an epoch owns exactly its cap in that epoch": its E turns have all started
   pub exactly-its-cap : (ws : List ℕ) (e : ℕ)
       → ((j : ℕ) → j < p .epoch → Started p ws (e * p .epoch + j) × Waits p ws (e * p .epoch + j) (least p))
       → ownedIn p ws e (least p) ≡ cap p (least p)

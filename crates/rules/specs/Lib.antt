@@ -30,5 +30,5 @@ pub mod Laws
 pub mod RunLaws
 -- W-201: of the turns that a class passes on, each of its children is named in turn
 pub mod RoundRobin
--- W-202: what a minimum guarantees, and W-209: what the least class's cap does
+-- W-202: what a minimum guarantees; W-209: when the least class owns its whole cap
 pub mod Guarantees

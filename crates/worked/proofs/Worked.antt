@@ -1,14 +1,14 @@
--- The worked turns: the table is computed from the definitions, and (a) and (e) are shown for every policy. The logs are computed without the test of the range at each call,
+-- The worked turns: the table is computed from the definitions, and (a) and (e) are shown for every policy. The logs, and the states at a list's ticks, are computed without the test of the range at each call,
 -- which every state reached from fresh passes.
 -- Assumes nothing.
 use mathlib.Core.Path.{_≡_, refl, sym, ap, ap₂, _∙_, subst}
-use mathlib.Core.Logic.{⊎-elim}
+use mathlib.Core.Logic.{_↔_, ⊎-elim}
 use mathlib.Core.Bool.{Bool, true, false, not, _&&_}
 use mathlib.Core.List.{List, [], _∷_, _++_, map}
 use Prim.Native.Nat.{ℕ, _+_, _*_, _%_, _≤_}
 use native.Mathlib.Nat.{not-suc-le-zero, le-of-lt}
 use native.Mathlib.Omega.{arith}
-use borrow.Author.Tests.{eqb-true, eq-eqb, ltb-true}
+use borrow.Author.Tests.{eqb-true, eqb-false, eq-eqb, ne-eqb, ltb-true, lt-ltb}
 use lib.Dec.{ltb, eqb}
 use lib.ListN.{length, getD}
 use Rattle.basics.specs.Below.{every, some, first, count, sum, setOf, listOf}
@@ -21,7 +21,7 @@ use Rattle.file.specs.File.{byte, word, kind, start, bodySize, kindsFit, bodies
 use Rattle.file.specs.Taken.{policyOf}
 use Rattle.policy.specs.declared.Policy.{Policy}
 use Rattle.file.specs.declared.Reading.{Reading}
-use Rattle.basics.proofs.Truth.{either, not-both, and-fails-left, or-cases, on-true, on-false}
+use Rattle.basics.proofs.Truth.{either, not-both, not-true, not-false, and-left, and-right, and-both, and-fails-left, or-cases, on-true, on-false}
 use Rattle.basics.proofs.Below.{count-same}
 use Rattle.policy.proofs.Laws.{policy-laws}
 use Rattle.requests.specs.Word.{classOf, kindOf, bankOf, tagOf, isOffer, requestOf, wordOf, classFits, bankAndKindFit, columnNumber, commandNumber}
@@ -37,8 +37,8 @@ use Rattle.state.specs.Range.{inRange as stateRange}
 use Rattle.rules.specs.Call.{offerOn, silent, afterTick, tickOn, tick}
 use Rattle.requests.specs.Trace.{callOf}
 use Rattle.rules.specs.Calls.{Answer, ticked, offered, answer, answerTo, stateAfter, logOf}
-use Rattle.rules.specs.Guarantees.{ticksIn, stateAtTick, atTick, firstTick, owns, ownedIn}
-use Rattle.worked.specs.Worked.{example, alone, pair, fork, spare, chain, full, solo, ladder, filled, between, ticks, reads, everySecond, eachTurn, logFrom, turnsIn, turnsFrom, waitsAt, leastOwned, twoEpochs, startOf, printed, Case, table, WorkedTurns}
+use Rattle.rules.specs.Guarantees.{ticksIn, stateAtTick, atTick, firstTick, Started, Waits, owns, ownedIn}
+use Rattle.worked.specs.Worked.{example, alone, pair, fork, spare, chain, full, aloneAtHome, chainAtHome, forkFilled, filledAbove, leastIsOne, ticks, reads, everySecond, eachTurn, logFrom, turnsIn, turnsFrom, waitsAt, epochOfLeast, twoEpochs, startOf, printed, Case, table, WorkedTurns}
 use Rattle.state.specs.declared.State.{State}
 use Rattle.requests.specs.declared.Call.{Call}
 use Rattle.requests.specs.declared.Call.the-variants.{Tick, Offer, Malformed}
@@ -143,9 +143,9 @@ owned-computed p ws e =
     ∷ cap p (least p)
     ∷ []
 
-least-owned : (p : Policy) → inRange p ≡ true → (ws : List ℕ) (e : ℕ) → leastOwned p ws e ≡ owned-computed p ws e
-unfolding leastOwned waitsAt ownedIn owns owned-computed plain-there answerTo callOf
-least-owned p given ws e =
+epoch-of-least : (p : Policy) → inRange p ≡ true → (ws : List ℕ) (e : ℕ) → epochOfLeast p ws e ≡ owned-computed p ws e
+unfolding epochOfLeast waitsAt ownedIn owns owned-computed plain-there answerTo callOf
+epoch-of-least p given ws e =
     let fits = fresh-fits p given in
     let there : (k : ℕ) → (atTick p ws (firstTick p k) ≡ plain-there p ws k) × (stateRange p (atTick p ws (firstTick p k)) ≡ true) = λ k. at-right p (freshState p) ws (firstTick p k) fits in
     let made : ticksIn p ws ≡ plain-after p (freshState p) ws .cycle = ap (λ (s : State). s .cycle) (after-right p (freshState p) ws fits) in
@@ -170,16 +170,16 @@ turns-from p given ws = ap (turnsIn (length ws)) (from-fresh p given ws)
 
 two-epochs : (p : Policy) → inRange p ≡ true → (ws : List ℕ) → twoEpochs p ws ≡ turns-computed p ws ++ owned-computed p ws 0 ++ owned-computed p ws 1
 unfolding twoEpochs
-two-epochs p given ws = ap₂ _++_ (ap₂ _++_ (turns-from p given ws) (least-owned p given ws 0)) (least-owned p given ws 1)
+two-epochs p given ws = ap₂ _++_ (ap₂ _++_ (turns-from p given ws) (epoch-of-least p given ws 0)) (epoch-of-least p given ws 1)
 
 -- ---- the table
 
 also : {xs ys : List ℕ} → {xss yss : List (List ℕ)} → xs ≡ ys → xss ≡ yss → xs ∷ xss ≡ ys ∷ yss
 also e es = ap₂ (λ (l : List ℕ) (ls : List (List ℕ)). l ∷ ls) e es
 
--- that a policy of it is in range is computed too, and so is `refl`
+-- each of its policies is in range; that is computed too, so its proof is `refl`
 cases : map (λ (c : Case). c .yielded) table ≡ map (λ (c : Case). c .stated) table
-unfolding table alone pair fork chain full solo ladder filled between startOf turns-computed owned-computed file-computed range-computed eachTurn
+unfolding table alone pair fork chain full aloneAtHome chainAtHome forkFilled filledAbove leastIsOne startOf turns-computed owned-computed file-computed range-computed eachTurn
 cases =
     also (turns-from alone refl (ticks 13))
     (also (turns-from pair refl (reads 3 0 ++ ticks 9))
@@ -194,13 +194,24 @@ cases =
     (also refl
     (also refl
     (also refl
-    (also (two-epochs solo refl (eachTurn (reads 2 0) 6))
-    (also (two-epochs ladder refl (eachTurn (reads 2 0 ++ reads 2 1 ++ reads 2 2) 10))
-    (also (two-epochs ladder refl (eachTurn (reads 2 0) 10))
-    (also (two-epochs filled refl (eachTurn (reads 2 0) 8))
-    (also (two-epochs between refl (eachTurn (reads 2 1) 8))
-    (also (least-owned ladder refl (ticks 8 ++ reads 2 0 ++ ticks 12) 0)
-    refl))))))))))))))))))
+    (also (two-epochs aloneAtHome refl (eachTurn (reads 1 0) 6))
+    (also (two-epochs chainAtHome refl (eachTurn (reads 1 0 ++ reads 1 1 ++ reads 1 2) 10))
+    (also (two-epochs chainAtHome refl (eachTurn (reads 1 0) 10))
+    (also (two-epochs forkFilled refl (eachTurn (reads 1 0) 8))
+    (also (two-epochs filledAbove refl (eachTurn (reads 1 0) 4))
+    (also (two-epochs leastIsOne refl (eachTurn (reads 1 1) 8))
+    (also (epoch-of-least chainAtHome refl (ticks 8 ++ reads 1 0 ++ ticks 12) 0)
+    refl)))))))))))))))))))
+
+-- what W-209's rows count is its premise
+waiting : (p : Policy) (ws : List ℕ) (c k : ℕ) → (waitsAt p ws c k ≡ true) ↔ (Started p ws k × Waits p ws k c)
+unfolding waitsAt
+waiting p ws c k =
+    let length = lengthOf (atTick p ws (firstTick p k) .queues) c in
+    let begins = ltb (firstTick p k) (ticksIn p ws) in (
+      λ t. (ltb-true (firstTick p k) (ticksIn p ws) (and-left begins (not (eqb length 0)) t), eqb-false length 0 (not-true (eqb length 0) (and-right begins (not (eqb length 0)) t))),
+      λ both. and-both (lt-ltb (firstTick p k) (ticksIn p ws) (both .0)) (not-false (eqb length 0) (ne-eqb length 0 (both .1))),
+    )
 
 -- ---- (a)
 
@@ -256,4 +267,4 @@ e p given k lengths left pointers nobody =
 
 pub worked-turns : WorkedTurns
 unfolding spare turns-computed range-computed everySecond
-worked-turns = record { cases = cases; customer = turns-from spare refl (everySecond 4); a = a; e = e }
+worked-turns = record { cases = cases; waiting = waiting; customer = turns-from spare refl (everySecond 4); a = a; e = e }

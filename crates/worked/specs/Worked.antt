@@ -1,6 +1,7 @@
 -- Document 01's "Worked turns" (a) to (h), of which W-202 changes (c) and (d), W-202's own and W-209's: one table, whose cases the definitions yield. (a) and (e) speak of every turn, so they are stated of
 -- every policy too.
 use mathlib.Core.Path.{_≡_}
+use mathlib.Core.Logic.{_↔_}
 use mathlib.Core.Bool.{Bool, true, false, not, _&&_}
 use mathlib.Core.List.{List, [], _∷_, _++_, map}
 use Prim.Native.Nat.{ℕ, zero, suc, _+_, _*_}
@@ -15,7 +16,7 @@ use Rattle.queues.specs.Waiting.{lengthOf}
 use Rattle.rules.specs.Step.{startTurn}
 use Rattle.state.specs.Fresh.{zeros, freshState}
 use Rattle.rules.specs.Calls.{logOf}
-use Rattle.rules.specs.Guarantees.{ticksIn, atTick, firstTick, ownedIn}
+use Rattle.rules.specs.Guarantees.{ticksIn, atTick, firstTick, Started, Waits, ownedIn}
 
 -- a policy by its rows, its epoch and its minimums, with the timing of the printed log
 unfoldable pub example : List ℕ → ℕ → List ℕ → ℕ → Policy
@@ -47,20 +48,24 @@ unfoldable pub full : Policy
 full = example (1 ∷ 3 ∷ []) 2 (1 ∷ 1 ∷ []) 2
 
 -- W-209: one class alone, with a home turn
-unfoldable pub solo : Policy
-solo = example (1 ∷ []) 3 (1 ∷ []) 1
+unfoldable pub aloneAtHome : Policy
+aloneAtHome = example (1 ∷ []) 3 (1 ∷ []) 1
 
 -- a chain of three, where the least class has a home turn too
-unfoldable pub ladder : Policy
-ladder = example (7 ∷ 6 ∷ 4 ∷ []) 5 (1 ∷ 1 ∷ 1 ∷ []) 3
+unfoldable pub chainAtHome : Policy
+chainAtHome = example (7 ∷ 6 ∷ 4 ∷ []) 5 (1 ∷ 1 ∷ 1 ∷ []) 3
 
 -- 0 below 1 and 2, which are incomparable, and minimums that fill the epoch
-unfoldable pub filled : Policy
-filled = example (7 ∷ 2 ∷ 4 ∷ []) 4 (1 ∷ 2 ∷ 1 ∷ []) 3
+unfoldable pub forkFilled : Policy
+forkFilled = example (7 ∷ 2 ∷ 4 ∷ []) 4 (1 ∷ 2 ∷ 1 ∷ []) 3
+
+-- 0 below 1, whose home turns fill the epoch
+unfoldable pub filledAbove : Policy
+filledAbove = example (3 ∷ 2 ∷ []) 2 (0 ∷ 2 ∷ []) 2
 
 -- 1 below 0 and 2, which are incomparable: the least class is not number 0
-unfoldable pub between : Policy
-between = example (1 ∷ 7 ∷ 4 ∷ []) 4 (1 ∷ 0 ∷ 1 ∷ []) 3
+unfoldable pub leastIsOne : Policy
+leastIsOne = example (1 ∷ 7 ∷ 4 ∷ []) 4 (1 ∷ 0 ∷ 1 ∷ []) 3
 
 -- ---- traces and logs
 
@@ -93,16 +98,17 @@ turnsIn (suc calls) log = elim (eqb (getD log 3 0) 0) [ true ↦ turnsIn calls (
 unfoldable pub turnsFrom : Policy → List ℕ → List ℕ
 turnsFrom p trace = turnsIn (length trace) (logFrom p trace)
 
--- W-209: at how many turn starts of an epoch the least class has a request waiting, how many of the epoch's turns it owns, and its cap
+-- class c has a request waiting at the start of turn number k, which starts: W-209's premise as a truth value (`WorkedTurns.waiting`)
 unfoldable pub waitsAt : Policy → List ℕ → ℕ → ℕ → Bool
 waitsAt p trace c k = ltb (firstTick p k) (ticksIn p trace) && not (eqb (lengthOf (atTick p trace (firstTick p k) .queues) c) 0)
 
-unfoldable pub leastOwned : Policy → List ℕ → ℕ → List ℕ
-leastOwned p trace e = count (p .epoch) (λ j. waitsAt p trace (least p) (e * p .epoch + j)) ∷ ownedIn p trace e (least p) ∷ cap p (least p) ∷ []
+-- W-209: at how many turn starts of an epoch the least class has a request waiting, how many of the epoch's turns it owns, and its cap
+unfoldable pub epochOfLeast : Policy → List ℕ → ℕ → List ℕ
+epochOfLeast p trace e = count (p .epoch) (λ j. waitsAt p trace (least p) (e * p .epoch + j)) ∷ ownedIn p trace e (least p) ∷ cap p (least p) ∷ []
 
 -- the turn numbers of a trace of two epochs, and these numbers of each
 unfoldable pub twoEpochs : Policy → List ℕ → List ℕ
-twoEpochs p trace = turnsFrom p trace ++ leastOwned p trace 0 ++ leastOwned p trace 1
+twoEpochs p trace = turnsFrom p trace ++ epochOfLeast p trace 0 ++ epochOfLeast p trace 1
 
 -- one turn's start, by its number, how many of each class wait and the turns left before it: the number that it shows, and the turns left after it
 unfoldable pub startOf : Policy → ℕ → List ℕ → List ℕ → List ℕ
@@ -163,26 +169,33 @@ table =
     ∷ record { yielded = startOf chain 2 (1 ∷ 1 ∷ 0 ∷ []) (0 ∷ 2 ∷ 3 ∷ []); stated = 3 ∷ 0 ∷ 2 ∷ 2 ∷ [] }
     -- W-209: "a least class with a request waiting at every turn start of an epoch owns exactly its cap in that epoch": of two epochs the turn numbers, and then of each at how many of its E turn starts the least class has a
     -- request waiting, how many of its turns it owns, and its cap. One class alone, E = 3, minimum 1: its cap is E.
-    ∷ record { yielded = twoEpochs solo (eachTurn (reads 2 0) 6); stated = 257 ∷ 257 ∷ 257 ∷ 257 ∷ 257 ∷ 257 ∷ 3 ∷ 3 ∷ 3 ∷ 3 ∷ 3 ∷ 3 ∷ [] }
+    ∷ record { yielded = twoEpochs aloneAtHome (eachTurn (reads 1 0) 6); stated = (257 ∷ 257 ∷ 257 ∷ 257 ∷ 257 ∷ 257 ∷ []) ++ (3 ∷ 3 ∷ 3 ∷ []) ++ (3 ∷ 3 ∷ 3 ∷ []) }
     -- a chain of three, E = 5, minimums 1, 1, 1, all always waiting. Turns 0 and 1 start at 0, turn 2 is its home turn, and 3 and 4 are those of the others: 0 owns 2 + 1, and its cap is 5 - 2. It drops before turns that start at it and before
     -- the home turn of 1, as 1 does before that of 2; 2 keeps as in (d).
     ∷ record {
-      yielded = twoEpochs ladder (eachTurn (reads 2 0 ++ reads 2 1 ++ reads 2 2) 10);
-      stated = 257 ∷ 257 ∷ 257 ∷ 258 ∷ 3 ∷ 257 ∷ 257 ∷ 257 ∷ 258 ∷ 3 ∷ 5 ∷ 3 ∷ 3 ∷ 5 ∷ 3 ∷ 3 ∷ [];
+      yielded = twoEpochs chainAtHome (eachTurn (reads 1 0 ++ reads 1 1 ++ reads 1 2) 10);
+      stated = (257 ∷ 257 ∷ 257 ∷ 258 ∷ 3 ∷ 257 ∷ 257 ∷ 257 ∷ 258 ∷ 3 ∷ []) ++ (5 ∷ 3 ∷ 3 ∷ []) ++ (5 ∷ 3 ∷ 3 ∷ []);
     }
     -- the same with 0 alone waiting: the idle home turn of 1 goes on up to 2, so 0 owns no turn more
-    ∷ record { yielded = twoEpochs ladder (eachTurn (reads 2 0) 10); stated = 257 ∷ 257 ∷ 257 ∷ 259 ∷ 3 ∷ 257 ∷ 257 ∷ 257 ∷ 259 ∷ 3 ∷ 5 ∷ 3 ∷ 3 ∷ 5 ∷ 3 ∷ 3 ∷ [] }
+    ∷ record {
+      yielded = twoEpochs chainAtHome (eachTurn (reads 1 0) 10);
+      stated = (257 ∷ 257 ∷ 257 ∷ 259 ∷ 3 ∷ 257 ∷ 257 ∷ 257 ∷ 259 ∷ 3 ∷ []) ++ (5 ∷ 3 ∷ 3 ∷ []) ++ (5 ∷ 3 ∷ 3 ∷ []);
+    }
     -- an antichain over a bottom with S = E, minimums 1, 2, 1: the least class owns its minimum and no more. It drops before a home turn of 1, and so does 1; 1 before that of 2, and 2 before that of 0, keep.
-    ∷ record { yielded = twoEpochs filled (eachTurn (reads 2 0) 8); stated = 257 ∷ 258 ∷ 2 ∷ 3 ∷ 257 ∷ 258 ∷ 2 ∷ 3 ∷ 4 ∷ 1 ∷ 1 ∷ 4 ∷ 1 ∷ 1 ∷ [] }
+    ∷ record { yielded = twoEpochs forkFilled (eachTurn (reads 1 0) 8); stated = (257 ∷ 258 ∷ 2 ∷ 3 ∷ 257 ∷ 258 ∷ 2 ∷ 3 ∷ []) ++ (4 ∷ 1 ∷ 1 ∷ []) ++ (4 ∷ 1 ∷ 1 ∷ []) }
+    -- 0 below 1, E = 2, minimums 0 and 2: both turns are home turns of 1, which is idle and drops before its own; 0 waits and owns none, its cap
+    ∷ record { yielded = twoEpochs filledAbove (eachTurn (reads 1 0) 4); stated = (258 ∷ 258 ∷ 258 ∷ 258 ∷ []) ++ (2 ∷ 0 ∷ 0 ∷ []) ++ (2 ∷ 0 ∷ 0 ∷ []) }
     -- the least class is 1 and has no home turn, E = 4, minimums 1, 0, 1: turns 0 and 1 start at 1, and 2 and 3 are the home turns of 0 and 2, which keep
-    ∷ record { yielded = twoEpochs between (eachTurn (reads 2 1) 8); stated = 258 ∷ 258 ∷ 1 ∷ 3 ∷ 258 ∷ 258 ∷ 1 ∷ 3 ∷ 4 ∷ 2 ∷ 2 ∷ 4 ∷ 2 ∷ 2 ∷ [] }
-    -- a request at its home turn alone does not do: the chain of three again, where 0 has requests waiting as turn 2 starts and at no other turn's start. It owns 1 turn of its cap of 3.
-    ∷ record { yielded = leastOwned ladder (ticks 8 ++ reads 2 0 ++ ticks 12) 0; stated = 1 ∷ 1 ∷ 3 ∷ [] }
+    ∷ record { yielded = twoEpochs leastIsOne (eachTurn (reads 1 1) 8); stated = (258 ∷ 258 ∷ 1 ∷ 3 ∷ 258 ∷ 258 ∷ 1 ∷ 3 ∷ []) ++ (4 ∷ 2 ∷ 2 ∷ []) ++ (4 ∷ 2 ∷ 2 ∷ []) }
+    -- a request at its home turn alone does not do: the chain of three again, where 0 has one waiting as turn 2 starts and at no other turn's start. It owns 1 turn of its cap of 3.
+    ∷ record { yielded = epochOfLeast chainAtHome (ticks 8 ++ reads 1 0 ++ ticks 12) 0; stated = 1 ∷ 1 ∷ 3 ∷ [] }
     ∷ []
 
 pub record WorkedTurns : Type 0 where
   -- the definitions yield the table
   pub cases : map (λ (c : Case). c .yielded) table ≡ map (λ (c : Case). c .stated) table
+  -- what is counted in W-209's rows is that the turn starts with a request of the class waiting
+  pub waiting : (p : Policy) (trace : List ℕ) (c k : ℕ) → (waitsAt p trace c k ≡ true) ↔ (Started p trace k × Waits p trace k c)
   -- W-201: the turns that the customer's least class passes up go to its two children in turn (by the rule before it, all to class 2)
   pub customer : turnsFrom spare (everySecond 4) ≡ 257 ∷ 2 ∷ 257 ∷ 3 ∷ 257 ∷ 2 ∷ 257 ∷ 3 ∷ []
   -- (a) in every policy and at every turn

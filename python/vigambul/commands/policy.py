@@ -91,7 +91,7 @@ def add(commands):
     part = parts.add_parser(
         "check",
         help="what a policy text means, for sign-off, and its mistakes",
-        description="Prints the flows, minimums, caps, home turns and timing of a policy text, and ends with the proved reader's answer. Mistakes are told all at once; it then ends with 1.",
+        description="Prints the flows, minimums, caps, home turns, what they guarantee, and timing of a policy text, and ends with the proved reader's answer. Mistakes are told all at once; it then ends with 1.",
         epilog="example:\n  vig policy check examples/two-tenants/policy.toml",
     )
     part.add_argument("text", metavar="F.toml", help="a policy text; docs/REFERENCE.md has its keys")

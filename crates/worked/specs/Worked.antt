@@ -81,7 +81,7 @@ unfoldable pub everySecond : ℕ → List ℕ
 everySecond zero = []
 everySecond (suc n) = reads 1 0 ++ ticks 8 ++ everySecond n
 
--- before each of so many turns these offers, and the ticks of the turn
+-- before each of so many turns these offers, and the ticks of the turn: a class with an offer among them has a request waiting as each turn starts
 unfoldable pub eachTurn : List ℕ → ℕ → List ℕ
 eachTurn offers zero = []
 eachTurn offers (suc n) = offers ++ ticks 4 ++ eachTurn offers n

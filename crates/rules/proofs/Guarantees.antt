@@ -1,6 +1,6 @@
--- W-202's promises, and W-209's, hold of every policy in range. A class with a request waiting owns its home turns, and a traversal comes to a class in no more turns of an epoch than its cap: so the plan's counts bound the turns that a class owns from
--- below and from above. A least class that always waits owns every turn but the home turns above it, so it meets the bound from above. A class's requests go in its own turns alone, so what waits still waits at its next home turn, which is at most an epoch away. And in a turn of its own, dead time less one after the start, nothing holds the head back
--- any more: no gap is longer, and no earlier column command is due so late.
+-- W-202's promises, and W-209's, hold of every policy in range. A class with a request waiting owns its home turns, and a traversal comes to a class in no more turns of an epoch than its cap: so the plan's counts bound the turns that a class
+-- owns from below and from above. A least class that always waits owns every turn but the home turns above it, so it meets the bound from above. A class's requests go in its own turns alone, so what waits still waits at its next home
+-- turn, which is at most an epoch away. And in a turn of its own, dead time less one after the start, nothing holds the head back any more: no gap is longer, and no earlier column command is due so late.
 -- Assumes nothing.
 use mathlib.Core.Path.{_≡_, refl, sym, ap, _∙_, subst}
 use mathlib.Core.Logic.{_⊎_, inl, inr, ⊎-elim}

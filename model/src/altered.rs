@@ -47,7 +47,9 @@ pub enum Altered {
     QueuedRequest,
     TurnsLeft,
     Mark,
-    /// Whatever L may not see: queues, turns left, marks and commands of other
+    /// How many requests have passed such a class's oldest.
+    Passed,
+    /// Whatever L may not see: queues, turns left, marks, counts and commands of other
     /// classes, the owner and what is in flight. No comparison may tell.
     HiddenParts,
 }
@@ -83,6 +85,7 @@ impl Altered {
                 let own = &mut done.state.classes[class];
                 own.left ^= 1;
                 own.pointer ^= 1;
+                own.passed ^= 1;
                 own.queue.pop_front();
                 done.state.owner = class;
                 done.state.elided ^= true;
@@ -132,7 +135,7 @@ impl Altered {
 
     fn change_class(self, pair: &Pair, seed: u64, done: &mut Performed) -> Option<()> {
         let fits = |own: &ClassState| match self {
-            Altered::TurnsLeft | Altered::Mark => true,
+            Altered::TurnsLeft | Altered::Mark | Altered::Passed => true,
             Altered::QueueLength | Altered::QueuedRequest => !own.queue.is_empty(),
             Altered::QueueOrder => own.queue.front() != own.queue.back(),
             _ => false,
@@ -144,6 +147,7 @@ impl Altered {
         match self {
             Altered::TurnsLeft => own.left ^= 1,
             Altered::Mark => own.pointer ^= 1,
+            Altered::Passed => own.passed ^= 1,
             Altered::QueueLength => {
                 own.queue.pop_back()?;
             }

@@ -9,10 +9,10 @@ use crate::planted::Planted;
 use crate::policy::{self, Policy, LONGEST_EPOCH, LONGEST_FILE, MOST_CLASSES, SHORTEST_FILE};
 use crate::program::read_trace;
 use crate::refusal::Refusal;
-use crate::state::{self, Kind, Request, State, QUEUE_LIMIT};
+use crate::state::{self, Kind, Request, State, MOST_PASSES, QUEUE_LIMIT};
 use crate::tick::{
-    bank_gap_met, gap_of_all_met, offer_in_range, offset, tick_in_range, turn_number, TickRecord,
-    Wires,
+    bank_gap_met, gap_of_all_met, gaps_met, offer_in_range, offset, tick_in_range, turn_number,
+    TickRecord, Wires,
 };
 use crate::trace::{Word, OFFER_BIT, STRAY_BITS};
 
@@ -24,7 +24,7 @@ const REFUSALS: [u32; 12] = [1, 2, 3, 4, 5, 6, 7, 8, 9, 10, 11, 14];
 const FAIR: u64 = 5;
 
 /// Everything else that is counted.
-const CASES: [&str; 71] = [
+const CASES: [&str; 82] = [
     "file under 17 bytes",
     "file above 65,535 bytes",
     "least class not 0",
@@ -97,6 +97,18 @@ const CASES: [&str; 71] = [
     "held back by the same-bank gap after a read alone",
     "held back by the same-bank gap after a write alone",
     "held back by the dead time alone",
+    // W-203, of the owner's queue.
+    "the first of eight goes",
+    "a middle one of eight goes",
+    "the last of eight goes",
+    "the oldest is passed for its bank alone",
+    "the oldest is passed by one of the other kind",
+    "a count that reaches 15",
+    "the oldest goes at a count of 15",
+    "a younger one held back by a count of 15 alone",
+    "a full queue held back by one busy bank alone",
+    "a turn of a class starts with its count above 0",
+    "a turn of another class starts with a count above 0",
 ];
 
 /// How often each case was met.
@@ -241,7 +253,9 @@ impl Coverage {
                 match tick_in_range(policy, state, Planted::Nothing) {
                     Ok(record) => {
                         self.add_tick(policy, state, &record);
+                        self.add_first_that_can_go(policy, &before, state, &record);
                         if record.turn.is_some() {
+                            self.add_counts(&before, state.owner);
                             self.add_marks(policy, &before, state, taken);
                             self.add_home_turn(policy, &before, state);
                         }
@@ -339,20 +353,90 @@ impl Coverage {
         }
     }
 
-    /// Counts an owner's head that was not activated, where there is one reason
-    /// only. No activate went out, so the state still has what the tick asked.
+    /// Counts an activate by the owner's requests before it, and by the count after it; or
+    /// what a count of 15 or one bank held back.
+    fn add_first_that_can_go(
+        &mut self,
+        policy: &Policy,
+        before: &State,
+        state: &State,
+        record: &TickRecord,
+    ) {
+        let cycle = before.cycle;
+        let (waiting, own) = (&before.classes[state.owner], &state.classes[state.owner]);
+        let Some(&oldest) = waiting.queue.front() else {
+            return;
+        };
+        let request = match record.wires {
+            Wires::Activate(request) => request,
+            Wires::Nothing if offset_allows(policy, state.elided, offset(policy, cycle)) => {
+                // No activate went out, so the state still has what the tick asked.
+                let younger = own.queue.iter().skip(1);
+                let mut free = younger.filter(|request| gaps_met(policy, state, request, cycle));
+                let at_15 = own.passed == MOST_PASSES && free.next().is_some();
+                self.met_if(at_15, "a younger one held back by a count of 15 alone");
+                let of_one_bank = own.queue.iter().all(|request| request.bank == oldest.bank);
+                self.met_if(
+                    own.queue.len() == QUEUE_LIMIT
+                        && of_one_bank
+                        && !bank_gap_met(policy, state, &oldest, cycle)
+                        && gap_of_all_met(policy, state, &oldest, cycle),
+                    "a full queue held back by one busy bank alone",
+                );
+                return;
+            }
+            _ => return,
+        };
+        // Of equal ones the oldest goes: their gaps are the same.
+        let place = waiting.queue.iter().position(|&other| other == request);
+        let first = place == Some(0);
+        if waiting.queue.len() == QUEUE_LIMIT {
+            let last = place == Some(QUEUE_LIMIT - 1);
+            self.met_if(first, "the first of eight goes");
+            self.met_if(!first && !last, "a middle one of eight goes");
+            self.met_if(last, "the last of eight goes");
+        }
+        let at_15 = waiting.passed == MOST_PASSES;
+        self.met_if(first && at_15, "the oldest goes at a count of 15");
+        if !first {
+            self.met_if(
+                gap_of_all_met(policy, before, &oldest, cycle),
+                "the oldest is passed for its bank alone",
+            );
+            self.met_if(
+                request.kind != oldest.kind,
+                "the oldest is passed by one of the other kind",
+            );
+            self.met_if(own.passed == MOST_PASSES, "a count that reaches 15");
+        }
+    }
+
+    /// Counts a turn's start by the counts before its first tick.
+    fn add_counts(&mut self, before: &State, owner: usize) {
+        for (class, own) in before.classes.iter().enumerate() {
+            let name = match class == owner {
+                true => "a turn of a class starts with its count above 0",
+                false => "a turn of another class starts with a count above 0",
+            };
+            self.met_if(own.passed > 0, name);
+        }
+    }
+
+    /// Counts an owner's oldest request that was not activated, nor any other, where
+    /// there is one reason only. No activate went out, so the state still has what the
+    /// tick asked.
     fn add_held_back(&mut self, policy: &Policy, state: &State, record: &TickRecord, cycle: u32) {
-        let Some(head) = state.classes[state.owner].queue.front() else {
+        let Some(oldest) = state.classes[state.owner].queue.front() else {
             return;
         };
         let column = matches!(record.wires, Wires::Column(_));
         let dead_time = !offset_allows(policy, state.elided, offset(policy, cycle));
-        let gap_of_all = !gap_of_all_met(policy, state, head, cycle);
-        let bank_gap = !bank_gap_met(policy, state, head, cycle);
+        let gap_of_all = !gap_of_all_met(policy, state, oldest, cycle);
+        let bank_gap = !bank_gap_met(policy, state, oldest, cycle);
         match [column, gap_of_all, bank_gap, dead_time] {
             [true, false, false, false] => self.met("held back by a due column alone"),
             [false, true, false, false] => {
-                let kinds = state.last_activate.map(|last| (last.kind, head.kind()));
+                let kinds = state.last_activate.map(|last| (last.kind, oldest.kind()));
                 self.met(match kinds {
                     Some((Kind::Read, Kind::Read)) => "held back by the gap read-read alone",
                     Some((Kind::Read, Kind::Write)) => "held back by the gap read-write alone",
@@ -361,7 +445,7 @@ impl Coverage {
                 });
             }
             [false, false, true, false] => {
-                let last = state.last_of_bank[usize::from(head.bank)];
+                let last = state.last_of_bank[usize::from(oldest.bank)];
                 self.met(match last.map(|last| last.kind) {
                     Some(Kind::Read) => "held back by the same-bank gap after a read alone",
                     _ => "held back by the same-bank gap after a write alone",

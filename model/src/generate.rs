@@ -2,7 +2,7 @@
 
 use crate::policy::{self, Policy, LONGEST_EPOCH, MOST_CLASSES, TIMING_LENGTH};
 use crate::random::Random;
-use crate::state::{Request, QUEUE_LIMIT};
+use crate::state::{Request, BANKS, QUEUE_LIMIT};
 use crate::trace::{offer_word, STRAY_BITS};
 
 /// The two files that the program reads.
@@ -705,7 +705,7 @@ struct TraceWriter<'a> {
 impl TraceWriter<'_> {
     fn stretch(&mut self) {
         self.banks = *self.random.pick(&[1, 2, 8]);
-        match self.random.below(90) {
+        match self.random.below(110) {
             0..=9 => self.burst(),
             10..=19 => self.idle(),
             20..=39 => self.mixed(),
@@ -713,7 +713,9 @@ impl TraceWriter<'_> {
             60..=69 => self.full_queue(),
             70..=79 => self.all_waiting(),
             80..=88 => self.noise(),
-            _ => self.crowd(),
+            89 => self.crowd(),
+            90..=99 => self.busy_bank(),
+            _ => self.slow_kind(),
         }
     }
 
@@ -803,6 +805,43 @@ impl TraceWriter<'_> {
         self.ticks(count);
     }
 
+    /// A queue that is filled on one bank, and goes on with some of others among many of that
+    /// one: the others go first.
+    fn busy_bank(&mut self) {
+        let class = self.any_class();
+        let busy = self.random.below(BANKS) as u8;
+        for _ in 0..QUEUE_LIMIT {
+            let number = busy_bank_offer(self.random, class, busy, 100);
+            self.numbers.push(number);
+        }
+        for _ in 0..self.random.between(10, 40) {
+            self.ticks(1);
+            if self.random.percent(60) {
+                let number = busy_bank_offer(self.random, class, busy, 70);
+                self.numbers.push(number);
+            }
+        }
+    }
+
+    /// A request of the slow kind, and a queue that is filled up again and again with
+    /// requests of the other, all of which may pass it.
+    fn slow_kind(&mut self) {
+        let class = self.any_class();
+        let slow = kind_offer(self.random, class, 1 - quick_kind(self.policy));
+        self.numbers.push(slow);
+        for _ in 1..QUEUE_LIMIT {
+            let number = quick_kind_offer(self.random, self.policy, class);
+            self.numbers.push(number);
+        }
+        for _ in 0..self.random.between(30, 80) {
+            self.ticks(1);
+            if self.random.percent(60) {
+                let number = quick_kind_offer(self.random, self.policy, class);
+                self.numbers.push(number);
+            }
+        }
+    }
+
     /// Every class asks, and then some turns go by.
     fn all_waiting(&mut self) {
         for class in 0..self.policy.class_count() as u8 {
@@ -846,6 +885,45 @@ pub fn sound_offer(random: &mut Random, class: u8, banks: usize) -> u32 {
         class,
         kind: random.below(2) as u8,
         bank: random.below(banks) as u8,
+        tag: random.next() as u16,
+    })
+}
+
+/// An offer of one bank in so many of a hundred cases, and else of any.
+pub fn busy_bank_offer(random: &mut Random, class: u8, busy: u8, percent: usize) -> u32 {
+    let bank = match random.percent(percent) {
+        true => busy,
+        false => random.below(BANKS) as u8,
+    };
+    offer_word(&Request {
+        class,
+        kind: random.below(2) as u8,
+        bank,
+        tag: random.next() as u16,
+    })
+}
+
+/// The kind whose requests may go on while one of the other waits: its gap after itself is
+/// shorter than that of the other, by more than the other's way round.
+pub fn quick_kind(policy: &Policy) -> u8 {
+    let gaps = policy.timing.gaps.map(|later| later.map(i16::from));
+    let [read, write] = [gaps[0][1] - gaps[0][0], gaps[1][0] - gaps[1][1]];
+    u8::from(write > read)
+}
+
+/// An offer of that kind, and in one of twenty cases of the other.
+pub fn quick_kind_offer(random: &mut Random, policy: &Policy, class: u8) -> u32 {
+    let quick = quick_kind(policy);
+    let kind = if random.percent(5) { 1 - quick } else { quick };
+    kind_offer(random, class, kind)
+}
+
+/// An offer of a kind, of any bank and with any tag.
+fn kind_offer(random: &mut Random, class: u8, kind: u8) -> u32 {
+    offer_word(&Request {
+        class,
+        kind,
+        bank: random.below(BANKS) as u8,
         tag: random.next() as u16,
     })
 }

@@ -65,7 +65,7 @@ pub fn search_planted(count: u64, planted: Planted) -> Search {
     search_pairs(count, planted, pair)
 }
 
-/// The same from states in which turns are used up. For tests.
+/// The same from states in which turns are used up and counts are any. For tests.
 pub fn search_used_up(count: u64, planted: Planted) -> Search {
     search_pairs(count, planted, pair_from_used_up)
 }
@@ -176,10 +176,11 @@ pub enum Check {
     PastTheCount,
     /// An extract with just enough room, or with one number less.
     Room,
-    /// The waiting requests, turns left and mark of a class that may flow to L.
+    /// The waiting requests, turns left, mark and count of a class that may flow to L.
     Queue,
     TurnsLeft,
     Mark,
+    Passed,
 }
 
 impl Check {
@@ -250,7 +251,8 @@ fn difference_of_rooms([left, right]: &[Outcome; 2]) -> Option<(Check, String)> 
 }
 
 /// "For each class that may flow to L, equal in the states after the two lists
-/// are its waiting requests, oldest first, its turns left and its mark"
+/// are its waiting requests, oldest first, its turns left and its mark". W-203: "and so
+/// do the counts of each class that may flow to it."
 fn difference_of_states(pair: &Pair, [left, right]: &[Performed; 2]) -> Option<(Check, String)> {
     for class in (0..pair.policy.class_count()).filter(|&class| pair.sees(class)) {
         let (left, right) = (&left.state.classes[class], &right.state.classes[class]);
@@ -263,6 +265,9 @@ fn difference_of_states(pair: &Pair, [left, right]: &[Performed; 2]) -> Option<(
         }
         if left.pointer != right.pointer {
             return found(Check::Mark, "marks");
+        }
+        if left.passed != right.passed {
+            return found(Check::Passed, "counts");
         }
     }
     None

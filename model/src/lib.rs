@@ -13,13 +13,13 @@
 //! | Trace and log                      | [`trace`]               |
 //! | The extract                        | [`extract`]             |
 //! | Two lists side by side             | [`leaks`], [`pairs`]    |
-//! | W-202's and W-209's promises       | [`promises`]            |
+//! | Promises of W-202, W-203 and W-209 | [`promises`]            |
 //! | The program                        | [`program`]             |
 //! | What is turned down                | [`refusal`]             |
 //!
 //! [`generate`] makes policies and traces from a seed, [`coverage`] counts
-//! what they exercise, [`random`] is the source of chance of both, and
-//! [`planted`] holds wrong rules, of which the searches for leaks and for broken
+//! what they exercise, [`random`] is the source of chance of both, [`reader`] is
+//! W-203's rule as a reader of trace and log sees it, and [`planted`] holds wrong rules, of which the searches for leaks and for broken
 //! promises must find those that leak or break one; [`altered`] holds the faults by
 //! which the comparison of the search for leaks is tested, and [`met`] counts what it
 //! meets.
@@ -42,6 +42,7 @@ pub mod policy;
 pub mod program;
 pub mod promises;
 pub mod random;
+pub mod reader;
 pub mod refusal;
 pub mod state;
 pub mod tick;

@@ -6,14 +6,16 @@ use std::collections::BTreeMap;
 use crate::extract::HIDDEN_TURN;
 use crate::pairs::{Cut, Pair};
 use crate::policy::MOST_CLASSES;
+use crate::reader::Reader;
 use crate::refusal::Refusal;
+use crate::state::MOST_PASSES;
 use crate::tick::turn_number;
 use crate::trace::{Word, COLUMN_BIT, ELIDED, LINE, OFFER_BIT};
 
 /// What is counted, and how much of it so many pairs must have met.
 type Counted = (&'static str, fn(u64) -> u64);
 
-const COUNTED: [Counted; 38] = [
+const COUNTED: [Counted; 42] = [
     ("pairs compared", |pairs| pairs),
     ("pairs of different lists", |pairs| pairs / 2),
     ("pairs with lists of different lengths", |pairs| pairs / 2),
@@ -58,6 +60,13 @@ const COUNTED: [Counted; 38] = [
     ("turns hidden", |pairs| pairs),
     ("offers seen that 10 refuses", |pairs| pairs / 10),
     ("offers seen that 11 refuses", |pairs| pairs),
+    // W-203, of classes that may flow to L and of others.
+    ("oldest requests passed, seen", |pairs| pairs),
+    ("oldest requests passed, hidden", |pairs| pairs),
+    ("oldest requests passed 15 times, seen", |pairs| pairs / 50),
+    ("oldest requests passed 15 times, hidden", |pairs| {
+        pairs / 200
+    }),
 ];
 
 /// How much a search met of all that is counted.
@@ -116,7 +125,37 @@ impl Met {
             self.add("offers to full queues", refused(log, Refusal::QueueFull));
             self.add_home_turns(pair, log);
         }
+        for (side, log) in logs.into_iter().enumerate() {
+            self.add_passes(pair, side, log);
+        }
         self.add_seen(extract);
+    }
+
+    /// Counts the activates of requests that were not the oldest of their class.
+    fn add_passes(&mut self, pair: &Pair, side: usize, log: &[u32]) {
+        let mut reader = Reader::new(&pair.policy, pair.start.cycle);
+        for (&number, line) in pair.lists[side].iter().zip(log.chunks_exact(LINE)) {
+            let Some(tick) = reader.read(number, line) else {
+                continue;
+            };
+            let Some((request, place)) = tick.activated else {
+                continue;
+            };
+            let passed = place.is_some_and(|place| place > 0);
+            let fifteenth = passed && tick.passes + 1 == u32::from(MOST_PASSES);
+            let (name, name_of_15) = match pair.sees(usize::from(request.class)) {
+                true => (
+                    "oldest requests passed, seen",
+                    "oldest requests passed 15 times, seen",
+                ),
+                false => (
+                    "oldest requests passed, hidden",
+                    "oldest requests passed 15 times, hidden",
+                ),
+            };
+            self.add_if(passed, name);
+            self.add_if(fifteenth, name_of_15);
+        }
     }
 
     fn add_policy(&mut self, pair: &Pair) {

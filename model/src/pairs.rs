@@ -9,14 +9,14 @@
 
 use crate::extract::{extract, is_kept};
 use crate::generate::{
-    malformed_word, missing_class_word, refused_offer, sound_offer, sound_rows, sound_timing,
-    PolicyFields,
+    busy_bank_offer, malformed_word, missing_class_word, quick_kind_offer, refused_offer,
+    sound_offer, sound_rows, sound_timing, PolicyFields,
 };
 use crate::planted::Planted;
 use crate::policy::{self, Policy, LONGEST_EPOCH, MOST_CLASSES, TIMING_LENGTH};
 use crate::random::Random;
 use crate::refusal::Refusal;
-use crate::state::{self, Request, State, BANKS, QUEUE_LIMIT};
+use crate::state::{self, Request, State, BANKS, MOST_PASSES, QUEUE_LIMIT};
 use crate::tick::{offset, turn_number};
 use crate::trace::{offer_word, run_line, LINE};
 
@@ -104,7 +104,8 @@ pub(crate) fn pair_from_used_up(seed: u64) -> Pair {
     pair_from(seed, used_up)
 }
 
-/// A state at a turn's start, with any marks and any turns left, which are often 0.
+/// A state at a turn's start, with any marks, any counts, which are often 15, and any turns
+/// left, which are often 0.
 fn used_up(policy: &Policy, random: &mut Random) -> State {
     let (mut state, _) = state::fresh(policy);
     let turn = random.below(usize::from(policy.epoch));
@@ -114,6 +115,8 @@ fn used_up(policy: &Policy, random: &mut Random) -> State {
             own.left = random.below(usize::from(own.left) + 1) as u8 * random.below(2) as u8;
         }
         own.pointer = random.below(policy.covers_of(class).len() + 1);
+        let most = usize::from(MOST_PASSES);
+        own.passed = random.below(2 * most).min(most) as u8;
     }
     state
 }
@@ -270,9 +273,13 @@ enum Habit {
     KeepFull,
     /// Its queue is filled before the first tick, and that is all.
     FullOnce,
+    /// Its queue is kept full, for the most part on one bank: others go before those.
+    BusyBank,
+    /// Its queue is kept full, nearly all of one kind: those go before the few of the other.
+    QuickKind,
 }
 
-const HABITS: [Habit; 16] = [
+const HABITS: [Habit; 19] = [
     Habit::Silent,
     Habit::Silent,
     Habit::Busy,
@@ -289,6 +296,9 @@ const HABITS: [Habit; 16] = [
     Habit::EpochEnd,
     Habit::KeepFull,
     Habit::FullOnce,
+    Habit::BusyBank,
+    Habit::QuickKind,
+    Habit::QuickKind,
 ];
 
 /// Of lists in which banks are left alone for hundreds of cycles.
@@ -342,7 +352,7 @@ impl Side<'_> {
                 let last_turn = place + 1 == u32::from(self.policy.epoch);
                 usize::from(last_turn || place + offset == 0) * random.between(1, 2)
             }
-            Habit::KeepFull => {
+            Habit::KeepFull | Habit::BusyBank | Habit::QuickKind => {
                 let room = QUEUE_LIMIT - self.state.classes[class].queue.len();
                 room + usize::from(random.percent(5))
             }
@@ -354,8 +364,13 @@ impl Side<'_> {
     /// An offer of a class. At times its bank and kind are those of a request
     /// that waits, or of the bank that was activated last or has been left alone
     /// longest: gaps then come to bear, or must not.
-    fn offer(&self, random: &mut Random, class: usize, banks: usize) -> u32 {
-        let word = sound_offer(random, class as u8, banks);
+    fn offer(&self, random: &mut Random, habit: Habit, class: usize, banks: usize) -> u32 {
+        let word = match habit {
+            // Of all classes it is the same bank.
+            Habit::BusyBank => return busy_bank_offer(random, class as u8, 0, 70),
+            Habit::QuickKind => return quick_kind_offer(random, self.policy, class as u8),
+            _ => sound_offer(random, class as u8, banks),
+        };
         if !random.percent(30) {
             return word;
         }
@@ -393,7 +408,7 @@ impl Side<'_> {
         let mut offers = Vec::new();
         for &class in classes {
             for _ in 0..self.offers_of(random, habits[class], class) {
-                offers.push(self.offer(random, class, banks));
+                offers.push(self.offer(random, habits[class], class, banks));
             }
         }
         if !classes.is_empty() && random.percent(2) {

@@ -5,8 +5,8 @@
 /// Which wrong rule is in place.
 #[derive(Clone, Copy, Debug, Default, PartialEq, Eq)]
 pub enum Planted {
-    /// None: the rules of document 01 with W-201 and W-202. Every tick, run and
-    /// program uses this.
+    /// None: the rules of document 01 with W-201, W-202 and W-203. Every tick, run
+    /// and program uses this.
     #[default]
     Nothing,
     /// The dead time is always dropped.
@@ -79,10 +79,43 @@ pub enum Planted {
     /// own. After a list of calls from a fresh state this shows in the turns left, and never
     /// in the log; the promises on caps and turns left, held against these caps, are broken.
     CapLessOwnMinimum,
+    /// The rule before W-203: the oldest of the owner's requests goes, or none. The count
+    /// stays 0.
+    OldestAlone,
+    /// One count is shared by all classes. Wherever a turn follows that of a class which
+    /// may not flow to its owner, the dead time was kept, so the first activate in it is of
+    /// the oldest and sets the count to 0: it leaks in the stored counts, and never in the
+    /// log.
+    OneCount,
+    /// The same, and an activate of the oldest sets the count to 0 only where it stands
+    /// at 15.
+    OneCountUpTo15,
+    /// Of the requests whose gaps are met, one of the kind of the last activate of all goes
+    /// first, however long ago that was and whoever made it.
+    LastKindFirst,
+    /// Of the requests whose gaps are met, one of the bank that was activated last goes
+    /// last, however long ago that was and whoever did it.
+    LastBankLast,
+    /// The owner activates its youngest request whose gaps are met.
+    YoungestFirst,
+    /// A request that leaves from behind the oldest leaves its place to the youngest.
+    LastMovesUp,
+    /// Sixteen others may pass the oldest.
+    SixteenPass,
+    /// An activate of the oldest leaves the count as it is. Then no more others pass than
+    /// may, so no promise of W-203 is broken but that the oldest goes whose gaps are met.
+    CountNeverReset,
+    /// An activate of the oldest leaves the count as it is unless it stands at 15: the next
+    /// oldest goes on with the count of one that left. The same holds of it.
+    CountKeptBelow15,
+    /// All counts are set to 0 as a turn starts.
+    CountsForgottenAtTurnStart,
+    /// A class's count is set to 0 by each offer of the class that is taken.
+    CountForgottenAtOffer,
 }
 
 /// Every wrong rule that leaks in a list of calls from a fresh state.
-pub const LEAKS: [Planted; 17] = [
+pub const LEAKS: [Planted; 21] = [
     Planted::AlwaysElided,
     Planted::Document000Elision,
     Planted::EpochEndForgotten,
@@ -100,4 +133,8 @@ pub const LEAKS: [Planted; 17] = [
     Planted::TrialBeforeHomeTurns,
     Planted::HomeElisionByNextOwner,
     Planted::HomeChargedIfHigherWaits,
+    Planted::OneCount,
+    Planted::OneCountUpTo15,
+    Planted::LastKindFirst,
+    Planted::LastBankLast,
 ];

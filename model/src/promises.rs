@@ -1,13 +1,15 @@
-//! What W-202 and W-209 promise of every accepted policy and every list of calls from fresh: a search
-//! for lists in which a promise is broken. The lists are those of the search for leaks ([`crate::pairs`]),
-//! and what happens in them is taken from the ticks' records and the states between them.
+//! What W-202, W-203 and W-209 promise of every accepted policy and every list of calls from fresh: a
+//! search for lists in which a promise is broken. The lists are those of the search for leaks
+//! ([`crate::pairs`]), and what happens in them is taken from the ticks' records and the states between
+//! them; W-203's promises are held against the lists and their logs alone ([`crate::reader`]).
 
 use std::collections::BTreeMap;
 
 use crate::pairs::pair;
 use crate::planted::Planted;
 use crate::policy::{Policy, LONGEST_EPOCH, MOST_CLASSES};
-use crate::state::{Request, State};
+use crate::reader::{Reader, SeenTick};
+use crate::state::{Request, State, MOST_PASSES, QUEUE_LIMIT};
 use crate::tick::{offer_in_range, offset, tick_in_range, turn_number, Wires};
 use crate::trace::{run_line, Word};
 
@@ -29,7 +31,8 @@ pub enum Promise {
     /// starts within E turns, that one counted, if so many start, or the request has gone before."
     Wait,
     /// "With a turn length of at least twice the dead time, the head at that start is activated in that
-    /// turn, if it is ticked to its end."
+    /// turn, if it is ticked to its end." W-203: "In W-202's last sentence on activation, read "some request
+    /// of the class" for the head."
     Activate,
     /// The same of shorter turns, where it is not promised: there the search must find it broken.
     ActivateInShortTurns,
@@ -37,6 +40,16 @@ pub enum Promise {
     /// a turn's walk can come to has turns left. Of E turns it can come to all but the home turns of
     /// classes that may not flow to it, and to no more than its cap is.
     TurnsLeft,
+    /// W-203: "The owner now activates its oldest request whose gaps are met. A request that has been the
+    /// oldest while 15 others passed it goes next, and nothing passes it again." At each tick, of what the
+    /// trace and the log have shown so far; "the rest of the queue closes up in its order".
+    FirstThatCanGo,
+    /// Of two waiting requests of one class with the same bank and the same kind, the older is activated
+    /// first. It follows from W-203: their gaps are the same.
+    OrderOfBankAndKind,
+    /// While a request is its class's oldest, at most 15 others of that class are activated before it. It
+    /// follows from W-203 too.
+    AtMost15Pass,
 }
 
 /// A broken promise.
@@ -49,7 +62,7 @@ pub struct Broken {
 }
 
 /// How often the promises came to bear, and in what way.
-const COUNTED: [&str; 36] = [
+const COUNTED: [&str; 47] = [
     "minimums owed",
     "minimums owed to classes that are not least",
     "minimums owed to a least class",
@@ -78,14 +91,25 @@ const COUNTED: [&str; 36] = [
     "waits where S is E",
     "waits that the last of E turns ends",
     "waits over an epoch's end",
-    "heads of owners",
-    "heads of owners that are not least",
-    "heads of owners in their home turns",
-    "heads where turns are just twice the dead time",
-    "heads that go as late as one less than the dead time",
+    "activates owed",
+    "activates owed to owners that are not least",
+    "activates owed to owners in their home turns",
+    "activates owed where turns are just twice the dead time",
+    "activates owed that come as late as one less than the dead time",
+    "activates owed of which the first passes the head",
     "one turn left to classes that a walk can come to",
     "one turn left to such classes that are not least",
     "one turn left to such classes, of a cap above 1 and below E",
+    "oldest requests that go",
+    "oldest requests passed",
+    "oldest requests passed by one of the other kind",
+    "oldest requests passed in two turns",
+    "activates of the older of two of one bank and kind",
+    "activates of the older of two of one bank and kind, neither the oldest",
+    "oldest requests passed 15 times",
+    "oldest requests passed 15 times that go",
+    "ticks at which being passed 15 times holds a younger one back",
+    "ticks at which none of eight can go",
 ];
 
 /// What a search found and how often the promises came to bear.
@@ -145,8 +169,9 @@ pub fn search_planted(count: u64, planted: Planted) -> Search {
             check.caps();
             check.full_caps();
             check.waits();
-            check.heads();
+            check.activates();
             check.turns_left();
+            check.passes(pair.start.clone(), list, planted);
         }
     }
     search
@@ -474,7 +499,7 @@ impl Check<'_> {
         }
     }
 
-    fn heads(&mut self) {
+    fn activates(&mut self) {
         let timing = &self.policy.timing;
         let turn_length = u32::from(timing.turn_length);
         let dead_time = u32::from(timing.dead_time);
@@ -491,25 +516,105 @@ impl Check<'_> {
                 continue;
             }
             let first = turn.first;
-            let activated = first.is_some_and(|(request, _)| request == head);
-            self.hold(promise, activated, || {
-                format!("turn {number} of class {owner} leaves its head where it is")
+            self.hold(promise, first.is_some(), || {
+                format!("turn {number} of class {owner} activates none of its requests")
             });
             if promise == Promise::Activate {
                 let home = self.policy.home(number as u32) == Some(owner);
                 let least = self.policy.least();
                 let late = first.is_some_and(|(_, offset)| offset + 1 == dead_time);
+                let passes = first.is_some_and(|(request, _)| request != head);
                 let search = &mut *self.search;
-                search.met_if(true, "heads of owners");
-                search.met_if(owner != least, "heads of owners that are not least");
-                search.met_if(home, "heads of owners in their home turns");
+                search.met_if(true, "activates owed");
+                search.met_if(
+                    owner != least,
+                    "activates owed to owners that are not least",
+                );
+                search.met_if(home, "activates owed to owners in their home turns");
                 search.met_if(
                     turn_length == 2 * dead_time,
-                    "heads where turns are just twice the dead time",
+                    "activates owed where turns are just twice the dead time",
                 );
-                search.met_if(late, "heads that go as late as one less than the dead time");
+                search.met_if(
+                    late,
+                    "activates owed that come as late as one less than the dead time",
+                );
+                search.met_if(passes, "activates owed of which the first passes the head");
             }
         }
+    }
+
+    /// Holds W-203's promises against the list and its log.
+    fn passes(&mut self, mut state: State, list: &[u32], planted: Planted) {
+        let policy = self.policy;
+        let mut reader = Reader::new(policy, state.cycle);
+        // The turn in which the oldest of each class was last passed.
+        let mut passed_in: Vec<Option<u32>> = vec![None; policy.class_count()];
+        for (place, &number) in list.iter().enumerate() {
+            let turn = turn_number(policy, state.cycle);
+            let line = run_line(policy, &mut state, number, planted);
+            let Some(tick) = reader.read(number, &line) else {
+                continue;
+            };
+            self.hold(Promise::FirstThatCanGo, tick.is_by_the_rule(), || {
+                format!("number {place} of the list: {tick:?}")
+            });
+            let Some((request, Some(taken))) = tick.activated else {
+                self.count_held_back(&tick);
+                continue;
+            };
+            let mut older = tick.waiting.range(..taken);
+            let mut younger = tick.waiting.range(taken + 1..);
+            let alike = |other: &Request| (other.bank, other.kind) == (request.bank, request.kind);
+            let in_order = !older.any(alike);
+            self.hold(Promise::OrderOfBankAndKind, in_order, || {
+                format!("number {place} of the list: {tick:?}")
+            });
+            let passes = if taken == 0 { 0 } else { tick.passes + 1 };
+            let most = u32::from(MOST_PASSES);
+            self.hold(Promise::AtMost15Pass, passes <= most, || {
+                format!("number {place} of the list: {tick:?}")
+            });
+            let before = match taken {
+                0 => passed_in[tick.owner].take(),
+                _ => passed_in[tick.owner].replace(turn),
+            };
+            let later = taken > 0 && before.is_some_and(|before| before != turn);
+            let other_kind = request.kind != tick.waiting[0].kind;
+            let alike_waits = younger.any(alike);
+            let search = &mut *self.search;
+            search.met_if(taken == 0, "oldest requests that go");
+            search.met_if(taken > 0, "oldest requests passed");
+            search.met_if(
+                taken > 0 && other_kind,
+                "oldest requests passed by one of the other kind",
+            );
+            search.met_if(later, "oldest requests passed in two turns");
+            search.met_if(
+                alike_waits,
+                "activates of the older of two of one bank and kind",
+            );
+            search.met_if(
+                alike_waits && taken > 0,
+                "activates of the older of two of one bank and kind, neither the oldest",
+            );
+            search.met_if(passes == most, "oldest requests passed 15 times");
+            search.met_if(
+                taken == 0 && tick.passes == most,
+                "oldest requests passed 15 times that go",
+            );
+        }
+    }
+
+    fn count_held_back(&mut self, tick: &SeenTick) {
+        let by_count = tick.due.is_none() && tick.due_without_limit.is_some();
+        self.search.met_if(
+            by_count,
+            "ticks at which being passed 15 times holds a younger one back",
+        );
+        let none_of_eight = tick.waiting.len() == QUEUE_LIMIT && tick.due_without_limit.is_none();
+        self.search
+            .met_if(none_of_eight, "ticks at which none of eight can go");
     }
 
     fn turns_left(&mut self) {

@@ -7,6 +7,8 @@ use crate::refusal::Refusal;
 
 /// 11: "8 requests of that class wait".
 pub const QUEUE_LIMIT: usize = 8;
+/// W-203: "while 15 others passed it".
+pub const MOST_PASSES: u8 = 15;
 /// 10: "bank above 7".
 pub const BANKS: usize = 8;
 /// 12: "a tick after 16,777,215 ticks". A state's cycle is the number of ticks
@@ -80,6 +82,9 @@ pub struct ClassState {
     /// that the class last passed a turn on to, counted from 1, or 0 before it
     /// ever passed one on.
     pub pointer: usize,
+    /// W-203's "stored count": how many others have passed the oldest of the queue
+    /// while it was the oldest. An offer does not change it, to an empty queue neither.
+    pub passed: u8,
 }
 
 /// A state between two calls. The fields are open so that a caller can hand in
@@ -113,6 +118,8 @@ impl State {
 /// "A fresh state is at cycle 0, with empty queues, nothing in flight, no
 /// activate yet, turns left at the caps, marks 0, owner 0 and its dead time
 /// kept." "A fresh state asked of an unfit policy is all zeros, with 13."
+///
+/// W-203: nothing has passed anything yet, so the counts are 0.
 pub fn fresh(policy: &Policy) -> (State, Option<Refusal>) {
     if !policy.in_range() {
         return (State::of_zeros(), Some(Refusal::OutOfRange));
@@ -121,6 +128,7 @@ pub fn fresh(policy: &Policy) -> (State, Option<Refusal>) {
         queue: VecDeque::new(),
         left: cap,
         pointer: 0,
+        passed: 0,
     };
     let state = State {
         classes: policy.caps.iter().map(class_at_its_cap).collect(),
@@ -163,6 +171,8 @@ fn class_in_range(policy: &Policy, state: &State, class: usize) -> bool {
         && own.queue.len() <= QUEUE_LIMIT
         // "turns left above the cap"
         && own.left <= policy.caps[class]
+        // W-203: "A stored count above 15 gets 13."
+        && own.passed <= MOST_PASSES
         // "a waiting request that 9 or 10 would refuse, or that waits in
         // another class's queue"
         && own.queue.iter().all(|request| {

@@ -4,7 +4,10 @@ use crate::dead_time::{is_elided, offset_allows};
 use crate::planted::Planted;
 use crate::policy::Policy;
 use crate::refusal::Refusal;
-use crate::state::{check_range, InFlight, LastActivate, Request, State, LAST_CYCLE, QUEUE_LIMIT};
+use crate::state::{
+    check_range, ClassState, InFlight, LastActivate, Request, State, LAST_CYCLE, MOST_PASSES,
+    QUEUE_LIMIT,
+};
 use crate::walk::{waits_with_turns_left, walk};
 
 /// "What the command wires carried: nothing, an activate or a column command,
@@ -81,11 +84,15 @@ pub(crate) fn offer_in_range(
         return Err(Refusal::QueueFull);
     }
     // Each class has a limit of its own: a full queue says nothing of others.
-    let queue = &mut state.classes[usize::from(request.class)].queue;
-    if queue.len() >= QUEUE_LIMIT {
+    let own = &mut state.classes[usize::from(request.class)];
+    if own.queue.len() >= QUEUE_LIMIT {
         return Err(Refusal::QueueFull);
     }
-    queue.push_back(request);
+    own.queue.push_back(request);
+    // Not a rule: a broken promise that tests plant.
+    if planted == Planted::CountForgottenAtOffer {
+        own.passed = 0;
+    }
     Ok(())
 }
 
@@ -130,6 +137,10 @@ fn start_turn(policy: &Policy, state: &mut State, planted: Planted) -> Option<Tu
     // nothing else sets it.
     state.owner = walk(policy, state, turn, planted);
     state.elided = is_elided(policy, state, turn, planted);
+    // Not a rule: a broken promise that tests plant.
+    if planted == Planted::CountsForgottenAtTurnStart {
+        set_counts(state, 0);
+    }
     Some(Turn {
         owner: state.owner,
         elided: state.elided,
@@ -143,9 +154,8 @@ pub(crate) fn set_to_caps(policy: &Policy, state: &mut State) {
     }
 }
 
-/// "2. If a column command is due, it goes out. Otherwise the head of the
-/// owner's queue is activated and leaves the queue, if the offset in the turn
-/// allows it and all gaps are met."
+/// "2. If a column command is due, it goes out. Otherwise" a request of the owner's is
+/// activated and leaves its queue, "if the offset in the turn allows it".
 fn drive_wires(policy: &Policy, state: &mut State, planted: Planted) -> Wires {
     if let Some(request) = take_due(&mut state.columns, state.cycle) {
         return Wires::Column(request);
@@ -155,21 +165,95 @@ fn drive_wires(policy: &Policy, state: &mut State, planted: Planted) -> Wires {
     if !offset_allows(policy, state.elided, offset(policy, state.cycle) + early) {
         return Wires::Nothing;
     }
-    let Some(&head) = state.classes[state.owner].queue.front() else {
+    let place = first_that_can_go(policy, state, planted);
+    let Some(request) = place.and_then(|place| leave_queue(state, place, planted)) else {
         return Wires::Nothing;
     };
-    if !gap_of_all_met(policy, state, &head, state.cycle)
-        || !bank_gap_met(policy, state, &head, state.cycle)
-    {
-        return Wires::Nothing;
+    activate(policy, state, request);
+    Wires::Activate(request)
+}
+
+/// W-203: "The owner now activates its oldest request whose gaps are met." This is its
+/// place in the owner's queue, where the oldest of all has place 0.
+fn first_that_can_go(policy: &Policy, state: &State, planted: Planted) -> Option<usize> {
+    let own = &state.classes[state.owner];
+    let can_go = |request: &Request| {
+        gaps_met(policy, state, request, state.cycle)
+            // Not a rule: a leak that tests plant.
+            && (planted != Planted::BankAgeInEightBits
+                || bank_gap_met_in_8_bits(policy, state, request))
+    };
+    let asked = own.queue.iter().take(asked_of(own, planted)).enumerate();
+    let mut can_go = asked.filter(|(_, request)| can_go(request));
+    // Not rules, but for the last: leaks and broken promises that tests plant.
+    let found = match planted {
+        Planted::YoungestFirst => can_go.next_back(),
+        Planted::LastKindFirst => {
+            let of_last_kind = |request: &Request| {
+                let last = state.last_activate;
+                last.is_some_and(|last| last.kind == request.kind())
+            };
+            let mut of_kind = can_go.clone().filter(|(_, request)| of_last_kind(request));
+            of_kind.next().or(can_go.next())
+        }
+        Planted::LastBankLast => {
+            let of_last_bank = |request: &Request| {
+                let last = state.last_of_bank[usize::from(request.bank)];
+                last.is_some() && last == state.last_activate
+            };
+            let mut of_others = can_go.clone().filter(|(_, request)| !of_last_bank(request));
+            of_others.next().or(can_go.next())
+        }
+        _ => can_go.next(),
+    };
+    found.map(|(place, _)| place)
+}
+
+/// How many requests of a queue may go, from the oldest on. "A request that has been the
+/// oldest while 15 others passed it goes next, and nothing passes it again."
+fn asked_of(own: &ClassState, planted: Planted) -> usize {
+    let most_passes = match planted {
+        // Not rules: the one before W-203, and a broken promise that tests plant.
+        Planted::OldestAlone => 0,
+        Planted::SixteenPass => MOST_PASSES + 1,
+        _ => MOST_PASSES,
+    };
+    if own.passed >= most_passes {
+        1
+    } else {
+        QUEUE_LIMIT
     }
-    // Not a rule: a leak that tests plant.
-    if planted == Planted::BankAgeInEightBits && !bank_gap_met_in_8_bits(policy, state, &head) {
-        return Wires::Nothing;
+}
+
+/// Takes the request at a place out of the owner's queue. "The rest of the queue closes up
+/// in its order."
+fn leave_queue(state: &mut State, place: usize, planted: Planted) -> Option<Request> {
+    let own = &mut state.classes[state.owner];
+    let request = match planted {
+        // Not a rule: a broken promise that tests plant.
+        Planted::LastMovesUp if place > 0 => own.queue.swap_remove_back(place),
+        _ => own.queue.remove(place),
+    };
+    own.passed = passed_after(own.passed, place, planted);
+    // Not rules: leaks that tests plant.
+    if matches!(planted, Planted::OneCount | Planted::OneCountUpTo15) {
+        let passed = own.passed;
+        set_counts(state, passed);
     }
-    state.classes[state.owner].queue.pop_front();
-    activate(policy, state, head);
-    Wires::Activate(head)
+    request
+}
+
+/// The owner's count after the activate of the request at a place. One of the oldest makes
+/// another the oldest, which nothing has passed yet; one of any other passes the oldest.
+fn passed_after(passed: u8, place: usize, planted: Planted) -> u8 {
+    match (place, planted) {
+        // Not rules: leaks and wrong counts that tests plant.
+        (0, Planted::CountNeverReset) => passed,
+        (0, Planted::CountKeptBelow15 | Planted::OneCountUpTo15) if passed < MOST_PASSES => passed,
+        (0, _) => 0,
+        // At 15 none but the oldest is asked.
+        _ => passed + 1,
+    }
 }
 
 /// "An activate at t brings its column command at t plus the column delay and
@@ -190,6 +274,11 @@ fn activate(policy: &Policy, state: &mut State, request: Request) {
     });
     state.last_activate = last;
     state.last_of_bank[usize::from(request.bank)] = last;
+}
+
+/// Whether "all gaps are met": W-203's request "whose gaps are met".
+pub(crate) fn gaps_met(policy: &Policy, state: &State, request: &Request, cycle: u32) -> bool {
+    gap_of_all_met(policy, state, request, cycle) && bank_gap_met(policy, state, request, cycle)
 }
 
 /// "Gaps run from the last activate of all (by the two kinds)": the earlier
@@ -245,6 +334,14 @@ fn reclaim_turn(policy: &Policy, state: &mut State) {
     if least != state.owner && owner_idle && waits_with_turns_left(state, least) {
         state.owner = least;
         state.classes[least].left -= 1;
+    }
+}
+
+/// For [`Planted::OneCount`], [`Planted::OneCountUpTo15`] and
+/// [`Planted::CountsForgottenAtTurnStart`] only.
+fn set_counts(state: &mut State, passed: u8) {
+    for class in &mut state.classes {
+        class.passed = passed;
     }
 }
 

@@ -164,6 +164,15 @@ fn bounds() -> String {
     .concat()
 }
 
+/// A state with W-203's counts of some classes changed.
+fn with_counts(state: &State, counts: &[(usize, u8)]) -> State {
+    let mut state = state.clone();
+    for &(class, passed) in counts {
+        state.classes[class].passed = passed;
+    }
+    state
+}
+
 /// Offers 13, 9, 10, 11 and ticks 13, 12, each where the later ones apply too.
 fn order() -> String {
     let policy = printed_policy();
@@ -173,6 +182,7 @@ fn order() -> String {
         owner: 2,
         ..full.clone()
     };
+    let counted = with_counts(&full, &[(1, 16)]);
     let at_the_end = |state: &State| State {
         cycle: 16_777_215,
         ..state.clone()
@@ -185,6 +195,8 @@ fn order() -> String {
         case("13 before 9 and 10", &broken, 2, 2, 8),
         case("13 before 10 and 11", &broken, 0, 2, 8),
         case("13 before 11", &broken, 0, 0, 0),
+        case("13 for a count, before 9 and 10", &counted, 2, 2, 8),
+        case("13 for a count, before 11", &counted, 0, 0, 0),
         case("9 before 10", &full, 2, 2, 8),
         case("10 for the bank, before 11", &full, 0, 0, 8),
         case("10 for the kind, before 11", &full, 0, 2, 0),
@@ -193,6 +205,7 @@ fn order() -> String {
         case("an offer in the last cycle", &at_the_end(&full), 1, 0, 0),
         tick_case("a tick of a broken state", &policy, &broken),
         tick_case("13 before 12", &policy, &at_the_end(&broken)),
+        tick_case("13 for a count, before 12", &policy, &at_the_end(&counted)),
         tick_case("one more tick", &policy, &at_the_end(&full)),
     ]
     .concat()
@@ -302,6 +315,83 @@ fn used_up() -> String {
     .concat()
 }
 
+/// The timing of W-203's cases: turns of 8, dead time 5, gaps 1, 5, 4, 1, same-bank gaps 4 and 5.
+const PASSING: [u8; 10] = [8, 5, 1, 5, 4, 1, 4, 5, 1, 3];
+
+/// A list of two classes without minimums, after the calls of another, with W-203's counts changed.
+fn passing(name: &str, before: &[u32], counts: &[(usize, u8)], list: &[u32]) -> String {
+    let policy = policy(&CHAIN_OF_TWO, 8, &[0; 2], PASSING);
+    let mut state = fresh(&policy);
+    run_on(&policy, &mut state, before);
+    run_case(name, &policy, with_counts(&state, counts), list)
+}
+
+/// Reads pass one of a bank that was just read, and a write one of a bank that was just written; a
+/// due column command holds all back.
+fn busy_banks() -> String {
+    #[rustfmt::skip]
+    let mut list = vec![
+        0x8000_0001, 0x8000_0002, 0x8000_0003, 0x8001_0004, 0x8002_0005, 0x8013_0006, 0x8013_0007, 0x8014_0008,
+    ];
+    list.extend([0; 22]);
+    passing("busy banks", &[], &[], &list)
+}
+
+/// A middle one of eight, the last of eight and the first of eight, and then the rest in its order.
+fn of_eight() -> String {
+    let writes = [0x8015_0001, 0x8016_0002, 0x8017_0003, 0, 0, 0, 0, 0];
+    #[rustfmt::skip]
+    let mut list = vec![
+        0x8001_0004, 0x8002_0005, 0x8003_0006, 0x8014_0007, 0x8005_0008, 0x8006_0009, 0x8007_000A, 0x8000_000B,
+        0, 0, 0x8010_000C, 0, 0, 0x8001_000D,
+    ];
+    list.extend([0; 21]);
+    passing("of eight", &writes, &[], &list)
+}
+
+/// Reads pass a write until 15 have, whatever is offered; and once the oldest has gone, the count of the
+/// next is 0, whatever it was.
+fn near_fifteen() -> String {
+    let read = [0x8000_0001, 0];
+    #[rustfmt::skip]
+    let mut list = vec![0x8011_0002, 0x8002_0003, 0x8003_0004, 0x8004_0005, 0x8015_0006];
+    let mut longer = vec![0x8000_0001];
+    longer.extend(&list);
+    longer.extend([0; 14]);
+    list.extend([0; 16]);
+    [
+        passing("one passes at a count of 14", &read, &[(0, 14)], &list),
+        passing("none passes at a count of 15", &read, &[(0, 15)], &list),
+        passing("the oldest goes at a count of 14", &[], &[(0, 14)], &longer),
+    ]
+    .concat()
+}
+
+/// Fifteen reads pass a write from a fresh state on, and the sixteenth waits until it has gone.
+fn fifteen_pass() -> String {
+    #[rustfmt::skip]
+    let mut list = vec![
+        0x8000_0001, 0x8017_0002, 0x8001_0003, 0x8002_0004, 0x8003_0005, 0x8004_0006, 0x8005_0007, 0x8006_0008,
+        0, 0x8000_0009,
+    ];
+    list.extend([0; 14]);
+    #[rustfmt::skip]
+    list.extend([
+        0x8001_000A, 0x8002_000B, 0x8003_000C, 0x8004_000D, 0x8005_000E, 0x8006_000F, 0x8000_0010,
+    ]);
+    list.extend([0; 14]);
+    list.extend([0x8001_0011, 0x8002_0012]);
+    list.extend([0; 12]);
+    passing("fifteen pass", &[], &[], &list)
+}
+
+/// The dead time that class 1 keeps holds all back.
+fn held_by_dead_time() -> String {
+    let mut list = vec![0x8111_0002, 0x8102_0003, 0x8103_0004];
+    list.extend([0; 16]);
+    passing("dead time", &[0x8100_0001, 0], &[], &list)
+}
+
 /// What an offer of class 2 and what a tick answer.
 fn both(name: &str, policy: &Policy, state: &State) -> String {
     let request = read_request(2, 9);
@@ -309,8 +399,16 @@ fn both(name: &str, policy: &Policy, state: &State) -> String {
         + &tick_case(&format!("{name}, tick"), policy, state)
 }
 
+/// W-203's counts above 15: of class 1, of which one waits, and of class 2, of which none does.
+const COUNTS_OF_16: [Change; 2] = [
+    ("a count of 16", |state| state.classes[1].passed = 16),
+    ("a count of 16 where none waits", |state| {
+        state.classes[2].passed = 16
+    }),
+];
+
 /// The last numbers in range.
-const IN_RANGE: [Change; 9] = [
+const IN_RANGE: [Change; 11] = [
     ("the last owner", |state| state.owner = 2),
     ("a mark at the children", |state| {
         state.classes[0].pointer = 2
@@ -333,6 +431,10 @@ const IN_RANGE: [Change; 9] = [
     }),
     ("an answer due at the next tick", |state| {
         state.responses[0].due = 3
+    }),
+    ("a count of 15", |state| state.classes[1].passed = 15),
+    ("a count of 15 where none waits", |state| {
+        state.classes[2].passed = 15
     }),
 ];
 
@@ -394,7 +496,8 @@ fn policies() -> String {
 }
 
 /// Numbers of a state that the proved program stores and the model does not: there is no state of
-/// the model to ask, and 13 is what the proved program is to answer.
+/// the model to ask, and 13 is what the proved program is to answer. A count of up to 15 it is to
+/// take at a number that is no class too.
 fn stored() -> String {
     let names = [
         "a queue that starts at place 8",
@@ -405,12 +508,15 @@ fn stored() -> String {
         "a mark of a number that is no class",
         "turns left of a number that is no class",
         "a queue of a number that is no class",
+        "a count of 256",
+        "a count of 16 of a number that is no class",
     ];
     let lines = names
         .iter()
         .flat_map(|name| ["offer", "tick"].map(|call| (name, call)))
         .map(|(name, call)| format!("{name}, {call}: 13 0 0 0, as it was\n"));
-    lines.collect()
+    let taken = "a count of 15 of a number that is no class";
+    lines.collect::<String>() + &both(taken, &fork(), &busy())
 }
 
 /// Stored policies, each by itself: whether it is in range. The proved policy has sixteen places for
@@ -568,12 +674,17 @@ fn out_of_range() -> String {
     nine.classes[0].queue = vec![request(0, 1, 7); 9].into();
     let mut unfit = fork();
     unfit.epoch = 0;
+    let counted = with_counts(&busy(), &[(1, 16)]);
     let state = |numbers, length| whole("a queue length of 9", &fork(), &nine, numbers, length);
+    let count = |numbers, length| whole("a count of 16", &fork(), &counted, numbers, length);
     let policy = |numbers, length| whole("a policy of E = 0", &unfit, &busy(), numbers, length);
     [
         state(2, 8),
         state(2, 7),
         state(0, 4),
+        count(2, 8),
+        count(2, 7),
+        count(0, 4),
         policy(2, 8),
         policy(2, 7),
         policy(0, 4),
@@ -622,25 +733,63 @@ fn quick_diamond() -> Policy {
     policy(&DIAMOND, 4, &[1; 4], [4, 3, 1, 2, 3, 1, 2, 3, 1, 3])
 }
 
+/// A run in one piece, cut in two at some places, and made by single calls. The names start alike.
+fn in_pieces(
+    start_of_name: &str,
+    policy: &Policy,
+    start: &State,
+    list: &[u32],
+    places: impl Iterator<Item = usize>,
+) -> String {
+    let mut end = start.clone();
+    let log = run_on(policy, &mut end, list);
+    let cuts = places.map(|place| {
+        let (first, second) = list.split_at(place);
+        let mut state = start.clone();
+        let mut parts = run_on(policy, &mut state, first);
+        parts.extend(run_on(policy, &mut state, second));
+        let name = format!("{start_of_name}cut in two at {place}");
+        agreement(&name, (&end, &log), (&state, &parts))
+    });
+    let mut state = start.clone();
+    let calls = list
+        .iter()
+        .map(|&number| single(policy, &mut state, number));
+    let calls = calls.collect::<Vec<_>>().concat();
+    let whole = format!("{start_of_name}in one piece");
+    let singly = format!("{start_of_name}by single calls");
+    format!("{whole}: 0\n")
+        + &log_lines(&whole, &log)
+        + &cuts.collect::<String>()
+        + &agreement(&singly, (&end, &log), (&state, &calls))
+}
+
 /// A run over a diamond in one piece, cut in two at every place, and made by single calls.
 fn pieces() -> String {
     let policy = quick_diamond();
-    let mut end = fresh(&policy);
-    let log = run_on(&policy, &mut end, &FORTY);
-    let cuts = (0..=FORTY.len()).map(|place| {
-        let (first, second) = FORTY.split_at(place);
-        let mut state = fresh(&policy);
-        let mut parts = run_on(&policy, &mut state, first);
-        parts.extend(run_on(&policy, &mut state, second));
-        let name = format!("cut in two at {place}");
-        agreement(&name, (&end, &log), (&state, &parts))
-    });
-    let mut state = fresh(&policy);
-    let calls = FORTY.map(|number| single(&policy, &mut state, number));
-    "in one piece: 0\n".to_string()
-        + &log_lines("in one piece", &log)
-        + &cuts.collect::<String>()
-        + &agreement("by single calls", (&end, &log), (&state, &calls.concat()))
+    let places = 0..=FORTY.len();
+    in_pieces("", &policy, &fresh(&policy), &FORTY, places)
+}
+
+/// W-203's counts, each class's by itself, where class 1 has every second turn: two more of class 0 may
+/// pass its oldest and one more of class 1 the oldest there; then none of class 1, and of class 0 all.
+fn two_counts() -> String {
+    let policy = policy(&CHAIN_OF_TWO, 2, &[0, 1], PASSING);
+    #[rustfmt::skip]
+    let mut list = vec![
+        0x8011_0002, 0x8002_0003, 0x8003_0004, 0x8114_0005, 0x8105_0006, 0, 0, 0, 0, 0, 0x8006_0007,
+        0, 0, 0, 0, 0x8107_0008, 0, 0, 0, 0, 0, 0, 0, 0x8010_0009,
+    ];
+    list.extend([0; 16]);
+    let mut start = fresh(&policy);
+    run_on(&policy, &mut start, &[0x8000_0001, 0]);
+    let case = |start_of_name, counts, places: &[usize]| {
+        let start = with_counts(&start, counts);
+        let places = places.iter().copied();
+        in_pieces(start_of_name, &policy, &start, &list, places)
+    };
+    case("counts of 13 and 14, ", &[(0, 13), (1, 14)], &[9, 14, 23])
+        + &case("counts of 0 and 15, ", &[(1, 15)], &[])
 }
 
 /// An extract: its status, its count and the slice after it.
@@ -799,7 +948,13 @@ fn calls() -> String {
         chain(),
         diamond(),
         used_up(),
+        busy_banks(),
+        of_eight(),
+        near_fifteen(),
+        fifteen_pass(),
+        held_by_dead_time(),
         changed_states(&OUT_OF_RANGE),
+        changed_states(&COUNTS_OF_16),
         policies(),
         changed_states(&IN_RANGE),
         stored(),
@@ -816,6 +971,7 @@ fn runs() -> String {
         room(),
         out_of_range(),
         pieces(),
+        two_counts(),
     ]
     .concat()
 }
@@ -856,7 +1012,7 @@ fn the_proved_program_answers_as_the_model_does() {
         &(files() + &extracts() + &stored_policies()),
     );
     let calls = compare("cases_calls", &(calls() + &runs()));
-    assert_eq!((policies, calls), (784, 548));
+    assert_eq!((policies, calls), (784, 860));
 }
 
 #[test]
@@ -960,5 +1116,6 @@ fn the_cases_break_what_they_name() {
             .count()
     };
     assert_eq!(refused(&OUT_OF_RANGE), 2 * (OUT_OF_RANGE.len() - 1));
+    assert_eq!(refused(&COUNTS_OF_16), 2 * COUNTS_OF_16.len());
     assert_eq!(refused(&IN_RANGE), 0);
 }

@@ -169,8 +169,33 @@ fn finds_a_home_class_that_is_charged_if_a_higher_one_waits() {
     assert_eq!(check, Some(Check::TurnsLeft));
 }
 
+/// After a turn of a class that may not flow to the owner the dead time was kept, so the
+/// owner's oldest goes first and sets the one count to 0 too: no log shows this leak.
+#[test]
+fn finds_one_count_of_passes_for_all_classes() {
+    let check = finds(Planted::OneCount);
+    assert_eq!(check, Some(Check::Passed));
+}
+
+#[test]
+fn finds_one_count_of_passes_that_goes_on_to_15() {
+    finds(Planted::OneCountUpTo15);
+}
+
+#[test]
+fn finds_a_scan_that_prefers_the_kind_of_the_last_activate() {
+    let check = finds(Planted::LastKindFirst);
+    assert_eq!(check, Some(Check::Command));
+}
+
+#[test]
+fn finds_a_scan_that_avoids_the_bank_of_the_last_activate() {
+    let check = finds(Planted::LastBankLast);
+    assert_eq!(check, Some(Check::Command));
+}
+
 /// Each change in what is compared, and the one comparison that can tell it.
-const ALTERED: [(Altered, Option<Check>); 19] = [
+const ALTERED: [(Altered, Option<Check>); 20] = [
     (Altered::Nothing, None),
     (Altered::RunRefused, Some(Check::Run)),
     (Altered::ExtractRefused, Some(Check::Refusal)),
@@ -189,6 +214,7 @@ const ALTERED: [(Altered, Option<Check>); 19] = [
     (Altered::QueuedRequest, Some(Check::Queue)),
     (Altered::TurnsLeft, Some(Check::TurnsLeft)),
     (Altered::Mark, Some(Check::Mark)),
+    (Altered::Passed, Some(Check::Passed)),
     (Altered::HiddenParts, None),
 ];
 

@@ -1,4 +1,4 @@
-//! The promises of W-202 and W-209 hold of the model as it is, and the search for lists that break one
+//! The promises of W-202, W-203 and W-209 hold of the model as it is, and the search for lists that break one
 //! finds every rule that does.
 
 use std::sync::OnceLock;
@@ -55,6 +55,9 @@ fn the_model_as_it_is_keeps_every_promise() {
         Promise::Wait,
         Promise::Activate,
         Promise::TurnsLeft,
+        Promise::FirstThatCanGo,
+        Promise::OrderOfBankAndKind,
+        Promise::AtMost15Pass,
     ] {
         assert_eq!(ordinary_search().broken.get(&promise), None, "{promise:?}");
     }
@@ -116,12 +119,12 @@ fn finds_a_higher_class_asked_first_by_the_full_cap_alone() {
 #[test]
 fn finds_a_dead_time_that_begins_one_cycle_early() {
     let broken = broken_by(Planted::DeadTimeEarly);
-    assert_eq!(broken, [Promise::Activate]);
+    assert_eq!(broken, [Promise::Activate, Promise::FirstThatCanGo]);
 }
 
 /// Without its premise W-202's last promise does not hold: the search must see that.
 #[test]
-fn finds_turns_too_short_to_activate_the_head() {
+fn finds_turns_too_short_to_activate_any_request() {
     let broken = &ordinary_search().broken;
     println!("{broken:?}");
     assert!(broken.contains_key(&Promise::ActivateInShortTurns));
@@ -133,6 +136,67 @@ fn finds_least_classes_that_wait_at_home_and_own_less_than_their_cap() {
     let broken = &ordinary_search().broken;
     println!("{broken:?}");
     assert!(broken.contains_key(&Promise::FullCapByHomeTurns));
+}
+
+/// W-203's promises that follow from the rule are kept without it, and the rule itself is not.
+#[test]
+fn finds_the_oldest_alone_by_the_rule() {
+    let broken = broken_by(Planted::OldestAlone);
+    assert_eq!(broken, [Promise::FirstThatCanGo]);
+}
+
+/// Where two equal requests wait, nobody can tell from the log that the younger has gone: what has
+/// passed what is then counted otherwise than in the state, and may come out above 15.
+#[test]
+fn finds_the_youngest_that_can_go() {
+    let broken = broken_by(Planted::YoungestFirst);
+    assert!(broken.contains(&Promise::FirstThatCanGo), "{broken:?}");
+    assert!(broken.contains(&Promise::OrderOfBankAndKind), "{broken:?}");
+}
+
+#[test]
+fn finds_a_queue_that_does_not_close_up_in_its_order() {
+    let broken = broken_by(Planted::LastMovesUp);
+    assert!(broken.contains(&Promise::FirstThatCanGo), "{broken:?}");
+    assert!(broken.contains(&Promise::OrderOfBankAndKind), "{broken:?}");
+}
+
+#[test]
+fn finds_an_oldest_that_sixteen_may_pass() {
+    let broken = broken_by(Planted::SixteenPass);
+    let expected = [Promise::FirstThatCanGo, Promise::AtMost15Pass];
+    assert_eq!(broken, expected);
+}
+
+#[test]
+fn finds_counts_that_a_turns_start_forgets() {
+    let broken = broken_by(Planted::CountsForgottenAtTurnStart);
+    let expected = [Promise::FirstThatCanGo, Promise::AtMost15Pass];
+    assert_eq!(broken, expected);
+}
+
+#[test]
+fn finds_a_count_that_an_offer_forgets() {
+    let broken = broken_by(Planted::CountForgottenAtOffer);
+    let expected = [Promise::FirstThatCanGo, Promise::AtMost15Pass];
+    assert_eq!(broken, expected);
+}
+
+/// A count that is too high lets fewer pass: only the rule itself is broken.
+#[test]
+fn finds_counts_that_go_on_after_the_oldest_has_left() {
+    for planted in [Planted::CountNeverReset, Planted::CountKeptBelow15] {
+        assert_eq!(broken_by(planted), [Promise::FirstThatCanGo], "{planted:?}");
+    }
+}
+
+/// The scans that leak are no rule either.
+#[test]
+fn finds_scans_that_go_by_the_last_activate() {
+    for planted in [Planted::LastKindFirst, Planted::LastBankLast] {
+        let broken = broken_by(planted);
+        assert!(broken.contains(&Promise::FirstThatCanGo), "{planted:?}");
+    }
 }
 
 /// Neither of these two shows in the log of a list from fresh: where a walk comes to a class, the class

@@ -39,7 +39,7 @@ fn a_sound_state_is_taken() {
 /// state can hold; the change just inside it is tested below.
 #[test]
 fn every_clause_refuses_a_number_just_out_of_range() {
-    let more: [Change; 7] = [
+    let more: [Change; 10] = [
         ("an owner far off", |state| state.owner = usize::MAX),
         ("a cycle above 16,777,215", |state| {
             state.columns.clear();
@@ -54,6 +54,14 @@ fn every_clause_refuses_a_number_just_out_of_range() {
         }),
         ("an answer due at the end of 32 bits", |state| {
             state.responses[1].due = u32::MAX
+        }),
+        ("a count of 16", |state| state.classes[0].passed = 16),
+        ("a count of 16 where none waits", |state| {
+            assert!(state.classes[2].queue.is_empty());
+            state.classes[2].passed = 16
+        }),
+        ("the highest count", |state| {
+            state.classes[1].passed = u8::MAX
         }),
         ("two columns due in one cycle", |state| {
             state.columns[0].due = state.columns[1].due
@@ -75,7 +83,7 @@ fn every_clause_refuses_a_number_just_out_of_range() {
 
 #[test]
 fn every_clause_takes_a_number_just_inside_its_range() {
-    let changes: [(&str, fn(&mut State)); 14] = [
+    let changes: [(&str, fn(&mut State)); 16] = [
         ("the last owner", |state| state.owner = 2),
         ("a pointer at the covers", |state| {
             state.classes[0].pointer = 2
@@ -85,6 +93,11 @@ fn every_clause_takes_a_number_just_inside_its_range() {
         }),
         ("turns left at the cap", |state| state.classes[0].left = 2),
         ("no turns left", |state| state.classes[1].left = 0),
+        ("a count of 15", |state| state.classes[1].passed = 15),
+        ("counts of 15 where none waits", |state| {
+            state.classes[0].passed = 15;
+            state.classes[2].passed = 15;
+        }),
         ("a last activate one before the cycle", |state| {
             state.last_activate = Some(LastActivate {
                 cycle: 2,

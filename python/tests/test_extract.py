@@ -29,6 +29,13 @@ class Extract(Case):
             others = {"base": ("red", "blue"), "red": ("blue",), "blue": ("red",)}[name]
             self.assertFalse([text for text in words if any(other in text for other in others)])
 
+    def test_passing(self):
+        """A class sees who passes among those that it may see, and no others."""
+        for name, passing in (("host", 0), ("graphics", 3)):
+            words = self.succeeds("extract", EXAMPLES / "busy-bank", "--class", name, "--words")
+            self.assertEqual(words.count(", passing "), passing)
+        self.assertEqual(words, self.succeeds("run", EXAMPLES / "busy-bank", "--words"))
+
     def test_greatest_class_sees_the_log(self):
         self.assertEqual(self.succeeds("extract", EXAMPLES / "diamond", "--class", "top"), (EXAMPLES / "diamond" / "expected.txt").read_text())
 

@@ -2,8 +2,9 @@
 
 from vigambul import build
 from vigambul.folders import folder_at, run_folder
-from vigambul.formats import COLUMN, QUEUE_FULL, QUEUE_PLACES, TICKS_OVER, request_of
-from vigambul.history import Replay, calls_of, ticks_of
+from vigambul.formats import COLUMN, MOST_PASSED, QUEUE_FULL, QUEUE_PLACES, TICKS_OVER, Request, request_of
+from vigambul.history import Replay, calls_of, passing, ticks_of
+from vigambul.policies import Policy
 
 from .samples import FIVE, generated, write
 from .support import EXAMPLES, Case
@@ -14,7 +15,7 @@ class Told(Replay):
 
     def __init__(self, policy):
         super().__init__(policy)
-        self.turns, self.ended, self.lives, self.columns, self.refusals, self.wires = [], [], {}, [], [], []
+        self.turns, self.ended, self.lives, self.columns, self.refusals, self.wires, self.activates = [], [], {}, [], [], [], []
 
     def refused(self, word, status):
         self.refusals.append((self.cycle, word, status))
@@ -28,9 +29,11 @@ class Told(Replay):
     def turn_ended(self):
         self.ended.append((self.turn, self.cycle))
 
-    def activated(self, word, offered):
+    def activated(self, word, offered, older):
         life = next(life for life in self.lives[word, offered] if life[0] is None)
         life[0] = self.cycle
+        queue = self.queues[request_of(word).class_]
+        self.activates.append((self.cycle, word, older, queue.passed, [waiting for waiting, _ in queue.requests]))
 
     def column(self, word):
         self.columns.append((self.cycle, word))
@@ -41,6 +44,17 @@ class Told(Replay):
 
     def ticked(self, command, response):
         self.wires.append((self.cycle, command, response, self.in_dead_time))
+
+
+def gaps_met(policy, request, cycle, last, of_bank):
+    """Whether a request's gaps are met in a cycle, by kind and cycle of the last activate of all, and of those of each bank."""
+    met = [0]
+    if last:
+        met.append(last[1] + policy.timing[2 + 2 * last[0] + request.kind])
+    if request.bank in of_bank:
+        kind, activated = of_bank[request.bank]
+        met.append(activated + policy.timing[6 + kind])
+    return max(met) <= cycle
 
 
 class HistoryCase(Case):
@@ -85,9 +99,21 @@ class Examples(HistoryCase):
         """The single class's table: the cycle of each activate; the answers come 9 later."""
         _, told = self.told("single-class")
         lives = [life for (_, offered), lives in told.lives.items() for life in lives if offered == 0]
-        self.assertEqual([activated for activated, _ in lives], [0, 2, 6, 10, 16, 19, 27, 34])
-        self.assertEqual([answered for _, answered in lives], [9, 11, 15, 19, 25, 28, 36, 43])
-        self.assertEqual([cycle for cycle, _ in told.columns], [5, 7, 11, 15, 21, 24, 32, 39])
+        self.assertEqual([activated for activated, _ in lives], [0, 4, 10, 12, 14, 18, 21, 29])
+        self.assertEqual([answered for _, answered in lives], [9, 13, 19, 21, 23, 27, 30, 38])
+        self.assertEqual([cycle for cycle, _ in told.columns], [5, 9, 15, 17, 19, 23, 26, 34])
+
+    def test_passing(self):
+        """The busy bank's table: in which cycle which tag of class 1 goes, how many older ones it passes, how many have passed the oldest then, and who waits on, in order."""
+        _, told = self.told("busy-bank")
+        mine = [activate for activate in told.activates if request_of(activate[1]).class_ == 1]
+        tags = [(cycle, request_of(word).tag, older, passed, [request_of(waiting).tag for waiting in left]) for cycle, word, older, passed, left in mine]
+        self.assertEqual(
+            tags,
+            [(10, 2, 1, 1, [1, 3, 4, 5, 6]), (12, 4, 2, 2, [1, 3, 5, 6]), (14, 1, 0, 0, [3, 5, 6]), (20, 3, 0, 0, [5, 6]), (22, 6, 1, 1, [5]), (25, 5, 0, 0, [])],
+        )
+        answers = {request_of(word).tag: answered for (word, _), ((_, answered),) in told.lives.items() if request_of(word).class_ == 1}
+        self.assertEqual(answers, {1: 18, 2: 14, 3: 24, 4: 16, 5: 29, 6: 26})
 
     def test_refused_calls(self):
         """The table of refused lines, and the cycles that they stand before."""
@@ -193,6 +219,40 @@ class Generated(HistoryCase):
         self.assertEqual(part.wires, whole.wires[:77])
         self.assertEqual(whole.cycle, 200)
 
+    def test_who_is_passed(self):
+        """A request that is passed has a gap that is not met, at most 15 pass one oldest, and of the requests of one class with the same bank and kind the older goes first."""
+        passed = most = 0
+        for ran in generated(self.library, self.room, 40, 400):
+            last, of_bank, waiting = None, {}, [[] for _ in range(ran.policy.classes)]
+            for call, older in passing(calls_of(ran.trace, ran.log)):
+                if call.offers and call.status == 0:
+                    waiting[request_of(call.word).class_].append(call.word)
+                elif call.command and not call.command & COLUMN:
+                    request = request_of(call.command)
+                    queue = waiting[request.class_]
+                    for word in queue[:older]:
+                        self.assertFalse(gaps_met(ran.policy, request_of(word), call.cycle, last, of_bank))
+                        self.assertNotEqual(request_of(word)[:3], request[:3])
+                    self.assertEqual(queue.pop(older), call.command)
+                    self.assertTrue(gaps_met(ran.policy, request, call.cycle, last, of_bank))
+                    last = of_bank[request.bank] = request.kind, call.cycle
+                    passed += older > 0
+            most = max([most, *(number for _, _, _, number, _ in Told(ran.policy).run(ran).activates)])
+        self.assertGreater(passed, 200)
+        self.assertGreater(most, 4)
+        self.assertLessEqual(most, MOST_PASSED)
+
+    def test_no_more_than_fifteen(self):
+        """Reads of bank 0 keep it busy for 31 cycles, writes of bank 1 hardly. The second read is passed by 15 writes, one in each cycle; then nothing goes before it, though writes wait
+        and the wires are free in cycles 16 to 19; from cycle 20 on column commands have them."""
+        policy = Policy([1], 1, [0], [62, 31, 1, 1, 1, 1, 31, 1, 20, 31])
+        read, write_ = Request(0, 0, 0, 0).word, Request(0, 1, 1, 0).word
+        trace = [read, read] + [write_] * 6 + [word for _ in range(20) for word in (0, write_)] + [0] * 30
+        told = Told(policy).run(run_folder(self.library, folder_at(write(self.room / "fifteen", policy, trace))))
+        self.assertEqual([(cycle, word, passed) for cycle, word, _, passed, _ in told.activates[:16]], [(0, read, 0)] + [(cycle, write_, cycle) for cycle in range(1, 16)])
+        self.assertEqual(told.activates[16][:4], (36, read, 0, 0))
+        self.assertEqual(told.activates[16][4], [write_] * 7)
+
     def test_equal_requests_leave_in_order(self):
         """Two equal requests offered at different cycles: the older one's answer comes first."""
         word = 0x81010001
@@ -202,16 +262,13 @@ class Generated(HistoryCase):
         (first,), (second,) = told.lives[word, 0], told.lives[word, 2]
         self.assertLess(first[1], second[1])
 
-    def test_request_that_passes_others(self):
-        """Whichever waiting request a log activates leaves its queue (later rules may let one pass): a log is made in which the second goes first."""
-        one, two = 0x80000001, 0x80010002
-        ran = run_folder(self.library, folder_at(write(self.room / "passing", FIVE, [one, two] + [0] * 12)))
-        swapped = {one: two, two: one, one | COLUMN: two | COLUMN, two | COLUMN: one | COLUMN, 0: 0}
-        for place in range(8, len(ran.log), 4):
-            ran.log[place + 1], ran.log[place + 2] = swapped[ran.log[place + 1]], swapped[ran.log[place + 2]]
-        told = Told(ran.policy).run(ran)
-        self.assertEqual((told.lives[two, 0], told.lives[one, 0]), ([[0, 3]], [[2, 5]]))
-
+    def test_equal_requests_that_pass(self):
+        """Of two equal requests behind one of a busy bank the older passes it first: it is the one that was offered first."""
+        first, oldest, equal = 0x80000001, 0x80000002, 0x80010003
+        trace = [first, oldest, equal, 0, equal] + [0] * 12
+        told = Told(FIVE).run(run_folder(self.library, folder_at(write(self.room / "equals", FIVE, trace))))
+        self.assertEqual([told.lives[word, offered] for word, offered in ((first, 0), (oldest, 0), (equal, 0), (equal, 1))], [[[0, 3]], [[4, 7]], [[2, 5]], [[6, 9]]])
+        self.assertEqual([(cycle, word, older) for cycle, word, older, _, _ in told.activates], [(0, first, 0), (2, equal, 1), (4, oldest, 0), (6, equal, 0)])
 
     def test_ticks_that_are_refused(self):
         """Ticks after the last one are refused, and no cycles. The last is far off, so the log is written by hand."""

@@ -7,7 +7,7 @@ from collections import Counter
 from vigambul import build
 from vigambul.folders import folder_at, run_folder
 from vigambul.formats import is_column, is_elided, is_offer, owner_of, request_of
-from vigambul.history import calls_of
+from vigambul.history import calls_of, passing
 from vigambul.picture import BAR_Y, HOME_Y, MARKS, ROW, ROWS_Y, rows_of
 from vigambul.policies import Policy
 
@@ -98,7 +98,7 @@ class PictureCase(Case):
                 self.assertAlmostEqual(number, expected, delta=0.11)
 
     def check_marks(self, picture, ran, shown, first, wide, rows):
-        classes = ran.policy.classes
+        classes, passes = ran.policy.classes, dict(passing(calls_of(ran.trace, ran.log)))
         marks = {kind: Counter() for kind in MARKS}
         for call in shown:
             if call.status:
@@ -106,7 +106,7 @@ class PictureCase(Case):
                 marks["refusal"][len(rows) if owner is None or owner >= classes else rows.index(owner), call.cycle] += 1
             elif call.ticks:
                 if call.command and not is_column(call.command):
-                    marks["activate"][rows.index(request_of(call.command).class_), call.cycle] += 1
+                    marks["passing" if passes[call] else "activate"][rows.index(request_of(call.command).class_), call.cycle] += 1
                 if call.response:
                     marks["answer"][rows.index(request_of(call.response).class_), call.cycle] += 1
             else:
@@ -126,18 +126,20 @@ class PictureCase(Case):
 
 class Counted(PictureCase):
     def test_examples(self):
-        for name, last in (("chain-of-three", 39), ("diamond", 44), ("printed-log", 2), ("refused-calls", 11), ("single-class", 43), ("two-tenants", 41), ("two-tenants-busy", 41)):
+        lasts = {"busy-bank": 33, "chain-of-three": 39, "diamond": 44, "printed-log": 2, "refused-calls": 11, "single-class": 43, "two-tenants": 41, "two-tenants-busy": 41}
+        for name, last in lasts.items():
             with self.subTest(name):
                 picture = self.check(EXAMPLES / name, 0, last)
                 self.assertIn("%s: cycles 0 to %d" % (name, last), picture.texts)
 
     def test_by_hand(self):
-        """The busy tenants: seven turns, four with their dead time kept, four of them home turns; 6 + 8 + 2 offers before cycle 0 and 8 + 1 before cycle 26, the last refused; the
-        last activate is not answered any more."""
+        """The busy tenants: seven turns, four with their dead time kept, four of them home turns; 6 + 8 + 2 offers before cycle 0 and 8 + 1 before cycle 26, the last refused; one
+        activate passes an older request, and the last is not answered any more."""
         picture = self.picture(EXAMPLES / "two-tenants-busy")
         self.assertEqual((len(picture.bars("turn")), len(picture.bars("dead")), len(picture.bars("home"))), (7, 4, 4))
         self.assertEqual((len(picture.marks("offer")), len(picture.words("offer")), len(picture.marks("refusal"))), (4, 24, 1))
-        self.assertEqual((len(picture.marks("activate")), len(picture.marks("answer"))), (16, 15))
+        self.assertEqual((len(picture.marks("activate")), len(picture.marks("passing")), len(picture.marks("answer"))), (16, 1, 16))
+        self.assertEqual(picture.words("passing"), ["cycle 24: activate red write bank 3 tag 4, passing 1 older"])
         self.assertEqual([element.text for element in picture.elements("text", "count")], ["2", "8", "8", "6"])
         self.assertEqual([text for text in picture.texts if text.startswith("epoch ") and text[6:].isdecimal()], ["epoch 0", "epoch 1", "epoch 2"])
         self.assertEqual(len(picture.elements("line", "epoch")), 3 + 1)

@@ -1,12 +1,10 @@
 """What `vig policy check` says of minimums, home turns and the least class's cap, held against runs by the proved library."""
 
-from collections import deque
-
 from vigambul import build
 from vigambul.draws import Draws
 from vigambul.figures import figures_of
 from vigambul.folders import folder_at, run_folder
-from vigambul.formats import Request, class_of
+from vigambul.formats import Request
 from vigambul.history import Replay
 from vigambul.minimums import class_words, least_words, minimum_words, plan_words, wait_words
 from vigambul.policies import Names, Policy
@@ -19,31 +17,25 @@ CHAIN, CHAIN_NAMES = Policy([7, 6, 4], 3, [0, 1, 1], TIMING), Names({0: "low", 1
 
 
 class Turns(Replay):
-    """Keeps of each turn its owner, which classes wait as it starts, and, once it is over, whether the owner's oldest request of its start went out: None where none waits, or the
-    run ends before."""
+    """Keeps of each turn its owner, which classes wait as it starts, and, once it is over, whether a request of the owner went out: None where none waits at its start, or the run ends
+    before."""
 
     def __init__(self, policy):
         super().__init__(policy)
         self.owners, self.waiting, self.went = [], [], []
-        self.queues = [deque() for _ in range(policy.classes)]
-        self.oldest, self.gone = None, False
-
-    def taken(self, word):
-        self.queues[class_of(word)].append((word, self.cycle))
+        self.gone = False
 
     def turn_started(self):
         self.owners.append(self.owner)
         self.waiting.append([length > 0 for length in self.lengths])
-        queue = self.queues[self.owner]
-        self.oldest, self.gone = queue[0] if queue else None, False
+        self.gone = False
 
-    def activated(self, word, offered):
-        self.gone = self.gone or (word, offered) == self.oldest
-        self.queues[self.owner].remove((word, offered))
+    def activated(self, word, offered, older):
+        self.gone = True
 
     def turn_ended(self):
         over = self.cycle == (self.turn + 1) * self.policy.turn
-        self.went.append(self.gone if over and self.oldest else None)
+        self.went.append(self.gone if over and self.waiting[-1][self.owner] else None)
 
 
 class Plan(Case):
@@ -147,8 +139,8 @@ class Promises(Case):
         self.assertGreater(none, 0)
         self.assertGreater(less, 50)
 
-    def test_the_oldest_request_goes_out(self):
-        """In a turn of its class that is ticked to its end, where turns are at least twice the dead time; where they are shorter it may not."""
+    def test_a_request_goes_out(self):
+        """In a turn of a class that waits as it starts, and that is ticked to its end, where turns are at least twice the dead time; where they are shorter none may."""
         went = late = 0
         for _, policy, turns in self.runs():
             enough = policy.turn >= 2 * policy.dead
@@ -203,13 +195,15 @@ class Words(Case):
             self.assertEqual(said, ["- %s." % word for word in words])
 
     def test_of_the_wait(self):
-        own, goes = wait_words(CHAIN)
+        own, goes, oldest = wait_words(CHAIN)
         self.assertEqual(own, "A class with a minimum that has a request waiting as a turn starts owns one of the 3 turns (12 cycles) from that one on, if the run has so many turns")
         end = "goes out in that turn of its own, if the run goes on to that turn's end"
-        self.assertEqual(goes, "A turn (4 cycles) is at least twice the dead time (2), so the oldest request of the class " + end)
-        own, goes = wait_words(Policy([1], 1, [1], [3, 2, *TIMING[2:]]))
+        self.assertEqual(goes, "A turn (4 cycles) is at least twice the dead time (2), so a request of the class " + end)
+        self.assertEqual(oldest, "While a request is the oldest of its class, at most 15 others of the class go out before it")
+        own, goes, oldest = wait_words(Policy([1], 1, [1], [3, 2, *TIMING[2:]]))
         self.assertEqual(own, "A class with a minimum that has a request waiting as a turn starts owns that turn (3 cycles)")
-        self.assertEqual(goes, "A turn (3 cycles) is less than twice the dead time (2), so it is not promised that the oldest request of the class goes out in that turn of its own")
+        self.assertEqual(goes, "A turn (3 cycles) is less than twice the dead time (2), so it is not promised that a request of the class goes out in that turn of its own")
+        self.assertEqual(oldest, wait_words(CHAIN)[2])
 
     def test_without_minimums(self):
         """All turns start at the least class, whatever its number."""

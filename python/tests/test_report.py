@@ -3,7 +3,7 @@
 import csv
 import json
 import statistics
-from collections import Counter
+from collections import Counter, defaultdict
 
 from vigambul import build
 from vigambul.figures import figures_of
@@ -15,7 +15,7 @@ from vigambul.tables import aligned, grouped
 from .samples import FIVE, generated, write, write_five
 from .support import EXAMPLES, Case, vig
 
-TAKEN = ("chain-of-three", "diamond", "printed-log", "refused-calls", "single-class", "two-tenants", "two-tenants-busy")
+TAKEN = ("busy-bank", "chain-of-three", "diamond", "printed-log", "refused-calls", "single-class", "two-tenants", "two-tenants-busy")
 
 
 class Stored(Case):
@@ -80,11 +80,26 @@ class Numbers(Case):
         return figures_of(run_folder(build.library(), folder_at(EXAMPLES / name)))
 
     def test_single_class(self):
-        """All eight are offered before cycle 0, so the waits are the answers' cycles: 9, 11, 15, 19, 25, 28, 36, 43. Turn 3, from cycle 36 on, has no activate."""
+        """All eight are offered before cycle 0, so the waits are the answers' cycles: 9, 13, 19, 21, 23, 27, 30, 38. Turn 3, from cycle 36 on, has no activate."""
         service = self.figures("single-class").services[0]
-        self.assertEqual(service.waited, 186)
-        self.assertEqual((service.answers, service.mean, service.median, service.rank(95), service.longest), (8, 186 / 8, 19, 43, 43))
+        self.assertEqual(service.waited, 180)
+        self.assertEqual((service.answers, service.mean, service.median, service.rank(95), service.longest), (8, 180 / 8, 21, 38, 38))
         self.assertEqual((service.turns, service.idle, service.elided, service.activates), (4, 1, 4, 8))
+        self.assertEqual((service.passing, service.past_one), (0, 0))
+
+    def test_passing(self):
+        """Behind the busy bank tags 2 and 4 of graphics pass tag 1, and tag 6 passes tag 5. All are offered before cycle 0; tags 2, 4, 1, 3, 6 and 5 are answered in cycles 14, 16,
+        18, 24, 26 and 29. The host's two reads pass nothing."""
+        host, graphics = self.figures("busy-bank").services
+        self.assertEqual((graphics.activates, graphics.passing, graphics.past_one), (6, 3, 2))
+        self.assertEqual(sorted(graphics.waits.elements()), [14, 16, 18, 24, 26, 29])
+        self.assertEqual((host.activates, host.passing, host.past_one), (2, 0, 0))
+
+    def test_waits_of_who_passes_and_who_is_passed(self):
+        """Red's tags 3 and 4 wait from cycle 0 on. Tag 4 passes tag 3 in cycle 24 and is answered in cycle 27, tag 3 in cycle 29."""
+        service = self.figures("two-tenants").services[1]
+        self.assertEqual(sorted(service.waits.elements()), [9, 11, 27, 29, 39, 41])
+        self.assertEqual((service.activates, service.passing, service.past_one), (7, 1, 1))
 
     def test_late_offers(self):
         """The chain's class 1 has four late offers, before cycle 22: answered in cycles 28, 30, 32 and 38, after 6, 8, 10 and 16."""
@@ -115,7 +130,7 @@ class Numbers(Case):
 
     def test_generated(self):
         """Every figure counted once more from the calls, in another way."""
-        seen = left = 0
+        seen = left = passed = most = 0
         for ran in generated(build.library(), self.room, 25, 300):
             figures = figures_of(ran)
             calls = list(calls_of(ran.trace, ran.log))
@@ -137,6 +152,9 @@ class Numbers(Case):
                 self.assertEqual(service.activates, sum(owner == number for _, owner in activates))
                 self.assertEqual(service.idle, sum(owner == number and (turn, number) not in activates for turn, owner in enumerate(owners)))
                 self.assertEqual(service.elided, sum(call.turn == number + 257 for call in ticks))
+                self.assertEqual((service.passing, service.past_one), passing_of(number, calls))
+                passed += service.passing
+                most = max(most, service.past_one)
                 waits = waits_of(number, calls)
                 self.assertEqual(sorted(service.waits.elements()), sorted(waits))
                 if waits:
@@ -151,6 +169,8 @@ class Numbers(Case):
                 self.assertIsNone(figures.part)
         self.assertGreater(seen, 500)
         self.assertGreater(left, 20)
+        self.assertGreater(passed, 100)
+        self.assertGreater(most, 2)
 
     def test_together(self):
         """Over all: the CSV's rows of a class add up to the JSON's figures over all."""
@@ -164,17 +184,37 @@ class Numbers(Case):
             mine = [row for row in rows if row["name"] == value["name"]]
             added = {"answers": value["answers"], "wait_sum": value["waits"]["sum"], "turns_owned": value["turns"]["owned"], "activates": value["activates"]}
             added.update({"home_turns_" + key: number for key, number in value["home_turns"].items()})
+            added["activates_passing"] = value["passing"]["activates"]
             for key, number in added.items():
                 self.assertEqual(sum(int(row[key]) for row in mine), number)
             self.assertEqual(max(int(row["wait_longest"]) for row in mine if row["wait_longest"]), value["waits"]["longest"])
+            self.assertEqual(max(int(row["activates_past_one"]) for row in mine), value["passing"]["past_one"])
             self.assertEqual(max(int(row["epoch_turns_most"]) for row in mine if row["epoch_turns_most"]), value["whole_epochs"]["most"])
 
 
 def waits_of(number, calls):
-    """A class's waits: its requests leave, and so are answered, in the order of their offers."""
-    offered = [call.cycle for call in calls if call.offers and call.status == 0 and request_of(call.word).class_ == number]
-    answered = [call.cycle for call in calls if call.response and request_of(call.response).class_ == number]
-    return [answer - offer for offer, answer in zip(offered, answered)]
+    """A class's waits: equal requests leave, and so are answered, in the order of their offers."""
+    offered, waits = defaultdict(list), []
+    for call in calls:
+        if call.offers and call.status == 0 and request_of(call.word).class_ == number:
+            offered[call.word].append(call.cycle)
+        if call.response and request_of(call.response).class_ == number:
+            waits.append(call.cycle - offered[call.response].pop(0))
+    return waits
+
+
+def passing_of(number, calls):
+    """How many activates of a class passed an older request, and the most that passed one oldest."""
+    waiting, passing, past = [], 0, [0]
+    for call in calls:
+        if call.offers and call.status == 0 and request_of(call.word).class_ == number:
+            waiting.append(call.word)
+        elif call.command in waiting:
+            oldest = waiting[0] == call.command
+            waiting.remove(call.command)
+            passing += not oldest
+            past = [*past, 0] if oldest else [*past[:-1], past[-1] + 1]
+    return passing, max(past)
 
 
 class Tables(Case):

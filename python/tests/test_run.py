@@ -44,6 +44,19 @@ class Run(Case):
         for cycle, words in ((18, "red, dead time dropped"), (36, "keys, home turn of red, dead time kept"), (180, "red, its home turn, dead time dropped")):
             self.assertEqual(starts["cycle %d" % cycle].partition(";")[0], words)
 
+    def test_passing_in_words(self):
+        """Behind the busy bank: who passes how many older ones; the others say nothing of it."""
+        lines = self.succeeds("run", EXAMPLES / "busy-bank", "--words").splitlines()
+        self.assertEqual(
+            [line for line in lines if "passing" in line],
+            [
+                "cycle 10: turn of graphics, its home turn, dead time kept; activate graphics read bank 4 tag 2, passing 1 older",
+                "cycle 12: activate graphics read bank 5 tag 4, passing 2 older; answer host read bank 3 tag 2",
+                "cycle 22: activate graphics write bank 7 tag 6, passing 1 older",
+            ],
+        )
+        self.assertIn("cycle 14: activate graphics write bank 3 tag 1; answer graphics read bank 4 tag 2", lines)
+
     def test_summary(self):
         said = "".join("%s\n%s" % (folder.name, vig("run", folder)[2]) for folder in TAKEN)
         self.stored("run/summaries.txt", said)

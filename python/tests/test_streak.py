@@ -228,6 +228,17 @@ class Forms(StreakCase):
         self.assertEqual((status, out.splitlines()[0]), (1, "streak: %d cycles since the block last differed" % (42 - cycle - 1)))
         self.stored("streak-wires.txt", out)
 
+    def test_requests_that_pass(self):
+        """A request that passes older ones is no difference where the model lets it pass. Another in its place is: the oldest, whose bank is busy, or one that does not wait."""
+        folder = EXAMPLES / "busy-bank"
+        self.assertEqual(self.succeeds("streak", folder, folder / "expected.txt", "--ledger", self.ledger), "streak: 34 cycles and no difference so far\n")
+        for word in ("81130001", "81040009"):
+            lines = (folder / "expected.txt").read_text().splitlines()
+            self.assertEqual(lines[19], "00000000 81040002 00000000 00000002")
+            lines[19] = "00000000 %s 00000000 00000002" % word
+            status, out, _ = vig("streak", folder, self.text("\n".join(lines) + "\n"), "--ledger", self.ledger)
+            self.assertEqual((status, out.splitlines()[1]), (1, "this run differs: first in cycle 10, last in cycle 10"))
+
     def test_a_word_that_is_missing(self):
         lines = [line for line in self.wires("single-class") if not line.startswith("answer")]
         status, out, _ = vig("streak", EXAMPLES / "single-class", self.text("\n".join(lines) + "\n"), "--ledger", self.ledger)

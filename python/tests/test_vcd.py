@@ -92,27 +92,30 @@ class VcdCase(Case):
         return Dump((self.room / "out.vcd").read_text())
 
     def check(self, ran, dump):
-        """Each cycle of the dump against the log. Queue lengths and turns left are counted here on their own: a class is charged for the turns that it owns, but not for a home turn
-        of its own that starts with a request waiting."""
+        """Each cycle of the dump against the log. Queues and turns left are counted here on their own: a class is charged for the turns that it owns, but not for a home turn of its own
+        that starts with a request waiting."""
         policy, names = ran.policy, identifiers(ran.names, ran.policy.classes)
-        lengths, caps = [0] * policy.classes, [policy.cap(number) for number in range(policy.classes)]
+        queues, passed, caps = [[] for _ in names], [0 for _ in names], [policy.cap(number) for number in range(policy.classes)]
         owners, charged, elided = [], [], False
         for call in calls_of(ran.trace, ran.log):
             if call.ticks:
                 if call.turn:
                     owners.append(owner_of(call.turn))
                     home, elided = policy.home(call.cycle // policy.turn), is_elided(call.turn)
-                    charged.append(None if home == owners[-1] and lengths[home] > 0 else owners[-1])
+                    charged.append(None if home == owners[-1] and queues[home] else owners[-1])
                 wanted = self.values_of(call, policy, names, owners, elided)
                 this_epoch = charged[len(charged) - 1 - (len(charged) - 1) % policy.epoch :]
                 for number, name in enumerate(names):
-                    wanted["queue." + name] = lengths[number]
+                    wanted["queue." + name] = len(queues[number])
+                    wanted["passed." + name] = passed[number]
                     wanted["turns_left." + name] = max(0, caps[number] - this_epoch.count(number))
                 self.assertEqual(dump.cycles[call.cycle], {"vigambul." + path: value for path, value in wanted.items()}, call.cycle)
                 if call.command and not is_column(call.command):
-                    lengths[request_of(call.command).class_] -= 1
+                    owner = owners[-1]
+                    passed[owner] = 0 if call.command == queues[owner][0] else passed[owner] + 1
+                    queues[owner].remove(call.command)
             elif call.offers and call.status == 0:
-                lengths[request_of(call.word).class_] += 1
+                queues[request_of(call.word).class_].append(call.word)
 
     def values_of(self, call, policy, names, owners, elided):
         text = lambda name: int.from_bytes(name.encode(), "big")
@@ -142,7 +145,7 @@ class VcdCase(Case):
 
 class Compared(VcdCase):
     def test_examples(self):
-        for name in ("chain-of-three", "diamond", "printed-log", "refused-calls", "single-class", "two-tenants-busy"):
+        for name in ("busy-bank", "chain-of-three", "diamond", "printed-log", "refused-calls", "single-class", "two-tenants-busy"):
             with self.subTest(name):
                 ran = run_folder(build.library(), folder_at(EXAMPLES / name))
                 dump = self.dump(EXAMPLES / name)
@@ -176,6 +179,11 @@ class Compared(VcdCase):
             self.assertEqual(text_of(values["vigambul.owner.name"]), "top")
             self.assertEqual((values["vigambul.home.valid"], values["vigambul.home.class"], text_of(values["vigambul.home.name"])), (valid, number, name))
 
+    def test_passed_by_hand(self):
+        """Behind the busy bank two pass graphics' oldest, in cycles 10 and 12, and it goes in cycle 14; each is seen in the cycle after. In cycle 22 one passes the next oldest."""
+        passed = [values["vigambul.passed.graphics"] for values in self.dump(EXAMPLES / "busy-bank").cycles]
+        self.assertEqual(passed, [0] * 11 + [1] * 2 + [2] * 2 + [0] * 8 + [1] * 3 + [0] * 8)
+
     def test_no_ticks(self):
         """Only the values before the first cycle: what waits is shown."""
         dump = self.dump(write(self.room / "still", FIVE, [0x81000001, 0x81000002], FIVE_NAMES))
@@ -196,7 +204,7 @@ class SaveFile(VcdCase):
         self.assertEqual(listed, [span(path) for path in dump.widths])
         titles = [line for line in lines if line.startswith("-")]
         self.assertEqual(titles[0::2], titles[1::2])
-        self.assertEqual(titles[0::2], ["-turn", "-owner", "-home turn", "-dead time", "-command", "-answer", "-queue", "-turns left"])
+        self.assertEqual(titles[0::2], ["-turn", "-owner", "-home turn", "-dead time", "-command", "-answer", "-queue", "-passed", "-turns left"])
         self.assertIn('[dumpfile] "out.vcd"', lines)
 
 

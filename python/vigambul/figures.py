@@ -10,7 +10,8 @@ from .history import Replay
 
 @dataclass
 class Service:
-    """A class's figures. `waits` has how many answered requests waited how long; `homes` are its home turns, whoever owned them."""
+    """A class's figures. `waits` has how many answered requests waited how long; `homes` are its home turns, whoever owned them; `passing` are its activates that passed an older
+    request, and `past_one` is the most that passed one oldest."""
 
     taken: int = 0
     full: int = 0
@@ -21,6 +22,8 @@ class Service:
     homes_owned: int = 0
     elided: int = 0
     activates: int = 0
+    passing: int = 0
+    past_one: int = 0
 
     @property
     def answers(self):
@@ -62,6 +65,8 @@ class Service:
         self.homes_owned += other.homes_owned
         self.elided += other.elided
         self.activates += other.activates
+        self.passing += other.passing
+        self.past_one = max(self.past_one, other.past_one)
 
 
 @dataclass
@@ -152,9 +157,12 @@ class Counting(Replay):
         if not self.used:
             self.figures.services[self.owner].idle += 1
 
-    def activated(self, word, offered):
+    def activated(self, word, offered, older):
         self.used = True
-        self.figures.services[self.owner].activates += 1
+        service = self.figures.services[self.owner]
+        service.activates += 1
+        service.passing += older > 0
+        service.past_one = max(service.past_one, self.queues[self.owner].passed)
 
     def column(self, word):
         self.figures.columns += 1

@@ -7,6 +7,8 @@ from typing import NamedTuple
 CLASSES = 16
 BANKS = 8
 QUEUE_PLACES = 8
+# So many may pass the oldest request of a class.
+MOST_PASSED = 15
 LAST_CYCLE = 16_777_215
 
 OFFER = 1 << 31

@@ -1,7 +1,8 @@
-"""A log told from its start on: the calls with their cycles, and what they did: turns, requests from their offers to their answers, queue lengths, turns left. Everything is
-read off the trace and the log; the one rule that is worked out here again is who is charged for a turn. A trace may have 17,000,000 numbers: nothing is kept for each."""
+"""A log told from its start on: the calls with their cycles, and what they did: turns, requests from their offers to their answers, queue lengths, turns left, who passed whom.
+Everything is read off the trace and the log; the rules that are worked out here again are who is charged for a turn, and how many have passed a class's oldest request. A trace may
+have 17,000,000 numbers: nothing is kept for each."""
 
-from collections import deque
+from collections import defaultdict, deque
 from typing import NamedTuple
 
 from .formats import COLUMN, TICKS_OVER, class_of, is_column, is_elided, is_offer, is_tick, owner_of
@@ -55,21 +56,51 @@ def calls_of(trace, log):
             cycle += 1
 
 
+class Queue:
+    """A class's waiting requests, oldest first, each with the cycle of its offer; `passed` is how many have passed the oldest while it was that."""
+
+    def __init__(self):
+        self.requests, self.passed = deque(), 0
+
+    def join(self, word, cycle):
+        self.requests.append((word, cycle))
+
+    def leave(self, word):
+        """An activate takes the request with that word out, of equal ones the oldest, and the rest closes up. Hands back the cycle of its offer and how many older ones it passes."""
+        older = next(place for place, (other, _) in enumerate(self.requests) if other == word)
+        offered = self.requests[older][1]
+        del self.requests[older]
+        self.passed = self.passed + 1 if older else 0
+        return offered, older
+
+
+def passing(calls):
+    """The calls of a run, or of an extract, each with how many older requests of its class its activate passes."""
+    queues = defaultdict(Queue)
+    for call in calls:
+        older = 0
+        if call.offers and call.status == 0:
+            queues[class_of(call.word)].join(call.word, call.cycle)
+        elif call.command and not is_column(call.command):
+            _, older = queues[class_of(call.command)].leave(call.command)
+        yield call, older
+
+
 class Replay:
     """Goes through a run once and tells what happens by the methods from `refused` to `ticked`, which do nothing here: one who wants to know overrides them. In them,
-    `cycle` is the cycle under way (of an offer: next to be ticked), `lengths` and `left` are the queue lengths and the turns left of each class, `turn`, `owner`, `home`
-    and `elided` are of the turn under way (-1, None, None and False before the first); `home` is the class whose home turn it is, or None."""
+    `cycle` is the cycle under way (of an offer: next to be ticked), `queues`, `lengths` and `left` are the queues, their lengths and the turns left of each class, `turn`,
+    `owner`, `home` and `elided` are of the turn under way (-1, None, None and False before the first); `home` is the class whose home turn it is, or None."""
 
     def __init__(self, policy):
         self.policy = policy
         self.cycle = 0
+        self.queues = [Queue() for _ in range(policy.classes)]
         self.lengths = [0] * policy.classes
         self.caps = [policy.cap(number) for number in range(policy.classes)]
         self.left = list(self.caps)
         self.plan = [policy.home(turn) for turn in range(policy.epoch)]
         self.turn, self.owner, self.home, self.elided = -1, None, None, False
-        # Requests by class, oldest first, and those activated and not yet answered: a word and the cycle of its offer.
-        self._waiting = [deque() for _ in range(policy.classes)]
+        # Requests activated and not yet answered: a word and the cycle of its offer.
         self._flying = deque()
 
     @property
@@ -98,8 +129,8 @@ class Replay:
     def turn_ended(self):
         """The last cycle of a turn, or of the run, is over; `cycle` is the one after it, and all else is still the turn's."""
 
-    def activated(self, word, offered):
-        """A request that was offered at that cycle goes out; its queue is the shorter by it already."""
+    def activated(self, word, offered, older):
+        """A request that was offered at that cycle goes out, past so many older ones of its class; its queue is the shorter by it already."""
 
     def column(self, word):
         """The column command of a request goes out; the word is the request's."""
@@ -135,7 +166,7 @@ class Replay:
 
     def _offer(self, word):
         number = class_of(word)
-        self._waiting[number].append((word, self.cycle))
+        self.queues[number].join(word, self.cycle)
         self.lengths[number] += 1
         self.taken(word)
 
@@ -157,11 +188,7 @@ class Replay:
             self.column(command & ~COLUMN)
             return
         number = class_of(command)
-        queue = self._waiting[number]
-        # Of equal requests the oldest goes first, whichever of the queue's may go.
-        place = next(place for place, (word, _) in enumerate(queue) if word == command)
-        request = queue[place]
-        del queue[place]
+        offered, older = self.queues[number].leave(command)
         self.lengths[number] -= 1
-        self._flying.append(request)
-        self.activated(*request)
+        self._flying.append((command, offered))
+        self.activated(command, offered, older)

@@ -1,6 +1,7 @@
-"""What minimums and caps do and guarantee under the rules in force: document 01 with requests W-202 and W-209 of document 02. The one place that says it: a request that changes
-the rules changes this text."""
+"""What minimums and caps do and guarantee under the rules in force: document 01 with requests W-202, W-203 and W-209 of document 02. The one place that says it: a request that
+changes the rules changes this text."""
 
+from .formats import MOST_PASSED
 from .words import counted
 
 RULE = """The last turns of an epoch, as many as the minimums add up to, are home turns: class by class in rising number, each class as often as its minimum. A home turn is
@@ -58,13 +59,14 @@ def least_words(policy, names):
 
 
 def wait_words(policy):
-    """How long a class with a minimum waits for a turn of its own, and for its request to go out: the same for all of them."""
+    """How long a class with a minimum waits for a turn of its own, and for a request of its own to go out; and how many others go before its oldest: the same for all of them."""
     turns = "that turn (%s)" if policy.epoch == 1 else "one of the %d turns (%%s) from that one on, if the run has so many turns" % policy.epoch
     own = "A class with a minimum that has a request waiting as a turn starts owns %s" % (turns % counted(policy.epoch * policy.turn, "cycle"))
     enough = policy.turn >= 2 * policy.dead
     length = "A turn (%s) is %s twice the dead time (%d)" % (counted(policy.turn, "cycle"), "at least" if enough else "less than", policy.dead)
-    goes = "the oldest request of the class goes out in that turn of its own"
-    return [own, "%s, so %s" % (length, goes + ", if the run goes on to that turn's end" if enough else "it is not promised that " + goes)]
+    goes = "a request of the class goes out in that turn of its own"
+    oldest = "While a request is the oldest of its class, at most %d others of the class go out before it" % MOST_PASSED
+    return [own, "%s, so %s" % (length, goes + ", if the run goes on to that turn's end" if enough else "it is not promised that " + goes), oldest]
 
 
 def none_words(policy, names):

@@ -8,7 +8,7 @@ from .errors import Wrong
 from .formats import class_of, is_offer
 from .history import Replay
 from .svg import coordinate, element, file_of, text, title_of
-from .words import counted, refusal_words, request_words, trace_words
+from .words import command_words, counted, refusal_words, request_words, trace_words
 
 # Turns that are shown where no range is asked for.
 TURNS_SHOWN = 40
@@ -31,7 +31,7 @@ LEGEND = 34
 TITLE_CHARACTER, NAME_CHARACTER, SMALL_CHARACTER = 10, 8.2, 5.8
 
 # The marks, with their heights in a row, in the order in which they are drawn.
-MARKS = {"offer": OFFER_Y, "refusal": REFUSED_Y, "activate": BAR_Y + BAR // 2, "answer": ANSWER_Y}
+MARKS = {"offer": OFFER_Y, "refusal": REFUSED_Y, "activate": BAR_Y + BAR // 2, "passing": BAR_Y + BAR // 2, "answer": ANSWER_Y}
 LEGENDS = (
     ("turn", "turn, in its owner's row"),
     ("dead", "dead time kept: no activate"),
@@ -39,6 +39,7 @@ LEGENDS = (
     ("offer", "offer taken"),
     ("refusal", "call refused"),
     ("activate", "activate"),
+    ("passing", "activate that passes"),
     ("flight", "in flight"),
     ("answer", "answer"),
     ("epoch", "epoch starts"),
@@ -58,6 +59,7 @@ text { font-family: Helvetica, Arial, 'DejaVu Sans', sans-serif; font-size: 11px
 .offer { fill: #333333; }
 .refusal { fill: none; stroke: #D55E00; stroke-width: 2; }
 .activate { fill: #00304D; }
+.passing { fill: #FFFFFF; stroke: #00304D; stroke-width: 1.5; }
 .answer { fill: #009E73; stroke: #FFFFFF; stroke-width: 0.7; }
 .boundary { stroke: #D5DADF; stroke-width: 1; }
 .epoch { stroke: #222222; stroke-width: 1.4; stroke-dasharray: 5 3; }
@@ -121,12 +123,12 @@ class Events(Replay):
         if self._began <= self.last and self.cycle > self.first:
             self.bars.append(Bar(self.turn, self.owner, self.home, self.elided, self._began, self.dead_from, self.cycle - 1))
 
-    def activated(self, word, offered):
+    def activated(self, word, offered, older):
         flight = Flight(self.owner, self.cycle)
         self._open.append(flight)
         if self.cycle <= self.last:
             self.flights.append(flight)
-        self._mark("activate", self.owner, lambda: "activate " + request_words(word, self.names))
+        self._mark("passing" if older else "activate", self.owner, lambda: command_words(word, self.names, older))
 
     def answered(self, word, offered):
         self._open.popleft().answered = self.cycle
@@ -164,7 +166,7 @@ def _shape(kind, x, y, size):
     """The path of a mark around a point, with half its width."""
     if kind == "offer":
         corners = ((x - size, y - size), (x + size, y - size), (x, y + size))
-    elif kind == "activate":
+    elif kind in ("activate", "passing"):
         corners = ((x, y - 1.5 * size), (x + size, y), (x, y + 1.5 * size), (x - size, y))
     else:
         size *= 0.9

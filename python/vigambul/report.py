@@ -9,10 +9,10 @@ from .tables import aligned, grouped
 from .words import counted
 
 # The table's columns, and the groups that they stand in.
-GROUPS = (("", 1), ("offers", 2), ("", 1), ("waits in cycles", 4), ("turns", 2), ("home turns", 2), ("dead times", 1), ("", 1), ("turns in a whole epoch", 4))
+GROUPS = (("", 1), ("offers", 2), ("", 1), ("waits in cycles", 4), ("turns", 2), ("home turns", 2), ("dead times", 1), ("activates", 3), ("turns in a whole epoch", 4))
 HEAD = (
     *("class", "taken", "refused %d" % QUEUE_FULL, "answers", "mean", "median", "95th", "longest", "owned", "idle", "started", "owned"),
-    *("dropped", "activates", "least", "most", "minimum", "cap"),
+    *("dropped", "all", "passing", "past one", "least", "most", "minimum", "cap"),
 )
 CSV_HEAD = (
     "folder",
@@ -32,6 +32,8 @@ CSV_HEAD = (
     "home_turns_owned",
     "dead_times_dropped",
     "activates",
+    "activates_passing",
+    "activates_past_one",
     "whole_epochs",
     "epoch_turns_least",
     "epoch_turns_most",
@@ -69,6 +71,8 @@ def _row(figures, names, number):
         service.homes_owned,
         service.elided,
         service.activates,
+        service.passing,
+        service.past_one,
         _shown(least),
         _shown(most),
         policy.minimums[number],
@@ -117,9 +121,10 @@ def csv_of(reported):
         for number, service in enumerate(figures.services):
             mean = None if service.mean is None else "%.3f" % service.mean
             waits = [service.waited, mean, service.median, service.rank(95), service.longest]
-            turns = [service.turns, service.idle, service.homes, service.homes_owned, service.elided, service.activates, figures.epochs, *_extremes(figures, number)]
-            allowed = [figures.policy.minimums[number], figures.policy.cap(number)]
-            writer.writerow([name, number, names.of(number), service.taken, service.full, service.answers, *waits, *turns, *allowed])
+            turns = [service.turns, service.idle, service.homes, service.homes_owned, service.elided]
+            activates = [service.activates, service.passing, service.past_one]
+            epochs = [figures.epochs, *_extremes(figures, number), figures.policy.minimums[number], figures.policy.cap(number)]
+            writer.writerow([name, number, names.of(number), service.taken, service.full, service.answers, *waits, *turns, *activates, *epochs])
     return out.getvalue()
 
 
@@ -138,6 +143,7 @@ def _class_value(figures, names, number, epochs):
         "turns": {"owned": service.turns, "idle": service.idle, "dead_times_dropped": service.elided},
         "home_turns": {"started": service.homes, "owned": service.homes_owned},
         "activates": service.activates,
+        "passing": {"activates": service.passing, "past_one": service.past_one},
         "whole_epochs": whole,
     }
 

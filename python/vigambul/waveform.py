@@ -19,6 +19,7 @@ ZOOM = "*-3.000000" + " -1" * 27
 TURN_BITS = 23
 CLASS_BITS, KIND_BITS, BANK_BITS, TAG_BITS = 5, 2, 4, 16
 LENGTH_BITS = 4
+PASSED_BITS = 4
 LEFT_BITS = 7
 
 
@@ -52,7 +53,7 @@ class Signal:
 
 
 def _code(place):
-    """The short code of the signal at a place: a visible character. There are 94, and at most 54 signals."""
+    """The short code of the signal at a place: a visible character. There are 94, and at most 70 signals."""
     return chr(ord("!") + place)
 
 
@@ -92,6 +93,7 @@ class Signals:
         self.response_valid = self._add("answer", "valid", 1)
         self.response = self._add_request("answer")
         self.lengths = [self._add("queue", name, LENGTH_BITS) for name in self.names]
+        self.passed = [self._add("passed", name, PASSED_BITS) for name in self.names]
         self.left = [self._add("turns_left", name, LEFT_BITS) for name in self.names]
 
     def _add(self, scope, name, bits):
@@ -118,13 +120,14 @@ class Signals:
 
 class Waveform(Replay):
     """Writes a run to a file as a value change dump. In the time of a cycle: the command and the answer of its tick, the turn that it lies in, the turns left once that
-    turn's owner was charged for it, where it is, and the queue lengths as the tick finds them, offers before it counted and its own activate not yet taken away."""
+    turn's owner was charged for it, where it is, and the queue lengths, and how many have passed the oldest, as the tick finds them, offers before it counted and its own activate
+    not yet."""
 
     def __init__(self, policy, names, file):
         super().__init__(policy)
         self.signals = Signals(policy, names)
         self.file = file
-        # The values from the next tick written on, and the class whose queue a tick has shortened.
+        # The values from the next tick written on, and the class whose queue a tick's activate has changed.
         self.pending = {}
         self.shortened = None
         self.command, self.response = 0, 0
@@ -139,7 +142,7 @@ class Waveform(Replay):
         self.file.write("\n".join([*lines, "$upscope $end", "$enddefinitions $end"]) + "\n")
 
     def taken(self, word):
-        self._length(class_of(word))
+        self._queue(class_of(word))
 
     def turn_started(self):
         signals, pending = self.signals, self.pending
@@ -150,7 +153,7 @@ class Waveform(Replay):
         pending[signals.elided] = int(self.elided)
         pending.update(zip(signals.left, self.left))
 
-    def activated(self, word, offered):
+    def activated(self, word, offered, older):
         self.shortened = class_of(word)
 
     def ticked(self, command, response):
@@ -167,11 +170,12 @@ class Waveform(Replay):
             self._request(signals.response, response)
         self._write()
         if self.shortened is not None:
-            self._length(self.shortened)
+            self._queue(self.shortened)
             self.shortened = None
 
-    def _length(self, number):
+    def _queue(self, number):
         self.pending[self.signals.lengths[number]] = self.lengths[number]
+        self.pending[self.signals.passed[number]] = self.queues[number].passed
 
     def _request(self, signals, word):
         """The fields of a request; where there is none they are 0, and the name is a dash."""

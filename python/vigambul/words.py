@@ -15,10 +15,12 @@ def request_words(word, names):
     return "%s %s bank %d tag %d" % (names.of(request.class_), kind, request.bank, request.tag)
 
 
-def command_words(command, names):
+def command_words(command, names, older=0):
+    """A command: what it is, its request, and how many older requests of its class wait on as it passes them."""
     if command == 0:
         return "nothing"
-    return "%s %s" % ("column" if is_column(command) else "activate", request_words(command, names))
+    passing = ", passing %d older" % older if older else ""
+    return "%s %s%s" % ("column" if is_column(command) else "activate", request_words(command, names), passing)
 
 
 def turn_words(turn, names, home=None):
@@ -52,24 +54,25 @@ def trace_words(word, names):
     return "malformed %08X" % word
 
 
-def tick_words(command, response, turn, names, home=None):
-    """What a tick shows, with the class whose home turn starts, if there is one; empty where it shows nothing."""
+def tick_words(command, response, turn, names, home=None, older=0):
+    """What a tick shows, with the class whose home turn starts, if there is one, and how many older requests its activate passes; empty where it shows nothing."""
     parts = []
     if starts_turn(turn):
         parts.append(turn_words(turn, names, home))
     if command:
-        parts.append(command_words(command, names))
+        parts.append(command_words(command, names, older))
     if response:
         parts.append("answer %s" % request_words(response, names))
     return "; ".join(parts)
 
 
-def call_words(call, names, policy=None):
-    """A call and what it showed, as in 'cycle 4: turn of red, dead time kept; activate red read bank 3 tag 1'. With the policy it is said too whose home turn starts."""
+def call_words(call, names, policy=None, older=0):
+    """A call and what it showed, as in 'cycle 4: turn of red, dead time kept; activate red read bank 3 tag 1'. With the policy it is said too whose home turn starts, and with the
+    number of older requests that its activate passes, that it does."""
     where = "cycle %d" % call.cycle
     if call.status != 0:
         return "%s: %s: %s" % (where, trace_words(call.word, names), refusal_words(call.status))
     if is_tick(call.word):
         home = policy.home(call.cycle // policy.turn) if policy and starts_turn(call.turn) else None
-        return "%s: %s" % (where, tick_words(call.command, call.response, call.turn, names, home) or "nothing")
+        return "%s: %s" % (where, tick_words(call.command, call.response, call.turn, names, home, older) or "nothing")
     return "%s: %s: taken" % (where, trace_words(call.word, names))

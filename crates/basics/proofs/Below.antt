@@ -183,6 +183,14 @@ module _ (f g : ℕ → Bool) where
   some-same zero h = refl
   some-same (suc n) h = ap₂ _||_ (some-same n (λ i l. h i (omega arith))) (h n (le-refl (suc n)))
 
+  pub first-same : (n : ℕ) → ((i : ℕ) → i < n → f i ≡ g i) → first n f ≡ first n g
+  unfolding first
+  first-same zero h = refl
+  first-same (suc n) h =
+      let below : (i : ℕ) → i < n → f i ≡ g i = λ i l. h i (omega arith) in
+      ap₂ (λ (b : Bool) (k : ℕ). cond b k (cond (f n) n (suc n))) (some-same n below) (first-same n below)
+      ∙ ap (λ (b : Bool). cond (some n g) (first n g) (cond b n (suc n))) (h n (le-refl (suc n)))
+
 pub sum-same : (f g : ℕ → ℕ) (n : ℕ) → ((i : ℕ) → i < n → f i ≡ g i) → sum n f ≡ sum n g
 unfolding sum
 sum-same f g zero h = refl

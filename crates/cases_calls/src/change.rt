@@ -54,7 +54,7 @@ fn policy_with(p: Policy, field: u8, place: u32, to: u32) -> Policy {
     changed
 }
 
-// queue length, head, waiting word.
+// queue length, head, passed (how many have passed the oldest), waiting word.
 fn queues_with(q: Queues, field: u8, at: usize, to: u32) -> Queues {
     let mut queues = q;
     if at < 128 {
@@ -69,6 +69,9 @@ fn queues_with(q: Queues, field: u8, at: usize, to: u32) -> Queues {
             }
             b'h' => {
                 queues.heads[at] = to as usize;
+            }
+            b'p' => {
+                queues.passed[at] = to as usize;
             }
             _ => {}
         }

@@ -5,7 +5,7 @@ use queues::Queues;
 use state::State;
 use state::Turns;
 
-// The numbers of a state, one after the other: of its queues, 160,
+// The numbers of a state, one after the other: of its queues, 176,
 fn of_queues(q: Queues, at: usize) -> u64 {
     if at < 128 {
         q.slots[at] as u64
@@ -13,6 +13,8 @@ fn of_queues(q: Queues, at: usize) -> u64 {
         q.heads[at - 128] as u64
     } else if at < 160 {
         q.lengths[at - 144] as u64
+    } else if at < 176 {
+        q.passed[at - 160] as u64
     } else {
         0
     }
@@ -46,13 +48,13 @@ fn of_flight(f: Flight, at: usize) -> u64 {
 
 // and the cycle and the class count.
 fn of_state(s: State, at: usize) -> u64 {
-    if at < 160 {
+    if at < 176 {
         of_queues(s.queues, at)
-    } else if at < 194 {
-        of_turns(s.turns, at - 160)
-    } else if at < 267 {
-        of_flight(s.flight, at - 194)
-    } else if at == 267 {
+    } else if at < 210 {
+        of_turns(s.turns, at - 176)
+    } else if at < 283 {
+        of_flight(s.flight, at - 210)
+    } else if at == 283 {
         s.cycle as u64
     } else {
         s.classes as u64
@@ -61,7 +63,7 @@ fn of_state(s: State, at: usize) -> u64 {
 
 pub(crate) fn same_state(a: State, b: State) -> bool {
     let mut at = 0;
-    while at < 269 {
+    while at < 285 {
         if of_state(a, at) != of_state(b, at) {
             return false;
         }
@@ -73,7 +75,7 @@ pub(crate) fn same_state(a: State, b: State) -> bool {
 // Whether a state is all zeros, as asking a fresh one of an unfit policy hands it back.
 pub(crate) fn all_zeros(s: State) -> bool {
     let mut at = 0;
-    while at < 269 {
+    while at < 285 {
         if of_state(s, at) != 0 {
             return false;
         }

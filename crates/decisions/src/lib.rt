@@ -1,10 +1,10 @@
 // What is decided on single numbers: where a class's pointer moves and whether the class takes the turn, what a turn costs and how it is
-// shown, and whether the gaps are met.
+// shown, and when a gap is met.
 
 ghost use mathlib.Core.Path.{_≡_};
 ghost use Prim.Native.Nat.{_-_, _%_};
 ghost use Rattle.rules.specs.Traversal.{moved, takesBy};
-ghost use Rattle.rules.specs.Wire.{gapMet, gapsMetBy};
+ghost use Rattle.rules.specs.Wire.{opensAt, kindGap, bankGap};
 ghost use Rattle.rules.specs.Step.{turnWord};
 use timing::Timing;
 
@@ -49,19 +49,28 @@ pub fn turn_word(owner: usize, elided: bool) -> u32
     }
 }
 
-// A gap is met from so many cycles after the last activate on, and where there was none.
-pub fn gap_met(last: u32, gap: u32, cycle: u32) -> bool
-    ensures { λ r. ⌜ r ≡ gapMet last gap cycle ⌝ }
+// The first tick, counted from 1, at which a gap after the last activate is met: 0 where there was none.
+pub fn opens_at(last: u32, gap: u32) -> u64
+    ensures { λ r. ⌜ r ≡ opensAt last gap ⌝ }
 {
-    (last == 0) | (flight::activate_next(last) as u64 + gap as u64 <= cycle as u64 + 1)
+    if last == 0 {
+        return 0;
+    }
+    flight::activate_next(last) as u64 + gap as u64
 }
 
-// All gaps are met: from the last activate of all, by the two kinds, and from that of the bank, by its kind. A kind is 0 or 1; another
-// number, of which document 01 says nothing, counts as what it is modulo 2.
-pub fn gaps_met(timing: Timing, last: u32, of_bank: u32, kind: u32, cycle: u32) -> bool
-    ensures { λ r. ⌜ r ≡ gapsMetBy timing last «of_bank» (kind % 2) cycle ⌝ }
+// The same of the gap from the last activate of all, by the two kinds. A kind is 0 or 1; another number, of which document 01 says nothing, counts as what it is modulo 2.
+pub fn kind_opens(timing: Timing, last: u32, kind: u32) -> u64
+    ensures { λ r. ⌜ r ≡ opensAt last (kindGap timing last (kind % 2)) ⌝ }
 {
     let after = (2 * flight::activate_kind(last) + kind % 2) as usize;
+    opens_at(last, timing.gaps[after])
+}
+
+// And of that from the last activate of a bank, by its kind.
+pub fn bank_opens(timing: Timing, of_bank: u32) -> u64
+    ensures { λ r. ⌜ r ≡ opensAt «of_bank» (bankGap timing «of_bank») ⌝ }
+{
     let same = flight::activate_kind(of_bank) as usize;
-    gap_met(last, timing.gaps[after], cycle) & gap_met(of_bank, timing.bank[same], cycle)
+    opens_at(of_bank, timing.bank[same])
 }

@@ -25,7 +25,7 @@ use Rattle.requests.specs.declared.Call.the-variants.{Tick}
 use Rattle.rules.proofs.Call.{offer-is, tick-is, tick-late}
 use Rattle.rules.proofs.Range.{ranged}
 use Rattle.extract.specs.Extract.{hideWord, hideTurn, lineSeen}
-use Rattle.noninterference.proofs.Low.{Downward, QueuesAgree}
+use Rattle.noninterference.proofs.Low.{Downward, QueuesAgree, queue-through}
 use Rattle.noninterference.proofs.Alike.{Alike}
 use Rattle.noninterference.proofs.Offers.{same-status, offer-agrees, offer-unseen}
 use Rattle.noninterference.proofs.Ticks.{tick-alike, tick-command, tick-response, tick-turn}
@@ -69,7 +69,7 @@ module _ (p : Policy) (given : policyInRange p ≡ true) (low : ℕ → Bool) (c
         subst (λ (x : Offered). Alike p low (x .state) r) (sym (offer-is p s (h .ranges) o))
         (record {
           cycles = alike .cycles;
-          queues = λ c i. offer-unseen (s .classes) (subst SmallClasses count-s few) low (s .queues) o high c i ∙ alike .queues c i;
+          queues = λ c i. queue-through (offer-unseen (s .classes) (subst SmallClasses count-s few) low (s .queues) o high c i) (alike .queues c i);
           turns = alike .turns;
           columns = alike .columns;
           responses = alike .responses;

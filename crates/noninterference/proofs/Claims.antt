@@ -147,7 +147,8 @@ module _ (p : Policy) (given : policyInRange p ≡ true) (l : ℕ) (is-class : i
         subst (λ (s : State). SameFor c (stateAfter p s xs) (stateAfter p s ys)) (sym fresh-is)
         (let both = same-states p given (seenBy p l) (closed p given l) xs ys agreed in
         record {
-          requests = both .0 .queues c f ∙ sym (both .1 .queues c f);
+          requests = both .0 .queues c f .requests ∙ sym (both .1 .queues c f .requests);
+          passed = both .0 .queues c f .passed ∙ sym (both .1 .queues c f .passed);
           left = both .0 .turns .left c f ∙ sym (both .1 .turns .left c f);
           pointer = both .0 .turns .pointers c f ∙ sym (both .1 .turns .pointers c f);
         })

@@ -17,7 +17,7 @@ use Rattle.rules.specs.Calls.{Answer, answer, answerTo, stateAfter, logOf}
 use Rattle.requests.specs.declared.Call.{Call}
 use Rattle.requests.specs.declared.Call.the-variants.{Tick, Offer, Malformed}
 use Rattle.rules.proofs.RunLaws.{one-call as reached}
-use Rattle.noninterference.proofs.Low.{Downward, OwnersAgree}
+use Rattle.noninterference.proofs.Low.{Downward, OwnersAgree, queue-self}
 use Rattle.noninterference.proofs.Alike.{Alike}
 use Rattle.extract.specs.Seen.{callStays, stays, staying}
 use Rattle.extract.specs.Extract.{lineSeen, lineSeenAt, extractOf}
@@ -30,7 +30,7 @@ alike-self p low s =
     let owners : OwnersAgree low o o = ⊎-elim (λ i. inl (refl, i)) (λ high. inr (high, high)) (either (low o)) in
     record {
       cycles = refl;
-      queues = λ c i. refl;
+      queues = λ c i. queue-self (s .queues) c;
       turns = record { owners = owners; elisions = λ i. refl; left = λ c i. refl; pointers = λ c i. refl };
       columns = λ i. refl;
       responses = λ i. refl;

@@ -1,7 +1,7 @@
 -- The classes that are looked at, called low: those that may flow to L, or any set that holds, with a class, all that may flow to it. The others are high.
--- Definitions for the proof: what two states' parts have in common for the low classes.
+-- Definitions for the proof: what two states' parts have in common for the low classes; and of queues, that each agrees with itself, and two both ways and through a third.
 -- Assumes nothing.
-use mathlib.Core.Path.{_≡_}
+use mathlib.Core.Path.{_≡_, refl, sym, _∙_}
 use mathlib.Core.Logic.{_⊎_}
 use mathlib.Core.Bool.{Bool, true, false}
 use mathlib.Core.List.{List}
@@ -10,7 +10,7 @@ use lib.ListN.{getD}
 use Rattle.policy.specs.Policy.{flows}
 use Rattle.policy.specs.declared.Policy.{Policy}
 use Rattle.requests.specs.Sizes.{bankCount}
-use Rattle.queues.specs.Waiting.{waiting}
+use Rattle.queues.specs.Waiting.{passedOf, waiting}
 use Rattle.rules.specs.Wire.{gapMet}
 use Rattle.flight.specs.declared.Flight.{Flight}
 use Rattle.queues.specs.declared.Queues.{Queues}
@@ -36,9 +36,26 @@ pub record TurnsAgree (low : ℕ → Bool) (t u : Turns) : Type 0 where
   pub left : EntriesAgree low (t .left) (u .left)
   pub pointers : EntriesAgree low (t .pointers) (u .pointers)
 
--- two states' queues, seen by the low classes: the same requests wait in each of theirs, oldest first
+-- a class's queue in two states: the same requests wait, oldest first, and as many have passed the oldest
+pub record QueueAgrees (q r : Queues) (c : ℕ) : Type 0 where
+  pub requests : waiting q c ≡ waiting r c
+  pub passed : passedOf q c ≡ passedOf r c
+
+-- two states' queues, seen by the low classes
 abbrev pub QueuesAgree : (ℕ → Bool) → Queues → Queues → Type 0
-QueuesAgree low q r = (c : ℕ) → low c ≡ true → waiting q c ≡ waiting r c
+QueuesAgree low q r = (c : ℕ) → low c ≡ true → QueueAgrees q r c
+
+-- a queue agrees with itself
+pub queue-self : (q : Queues) (c : ℕ) → QueueAgrees q q c
+queue-self q c = record { requests = refl; passed = refl }
+
+-- two that agree do so the other way round
+pub queue-back : {q r : Queues} {c : ℕ} → QueueAgrees q r c → QueueAgrees r q c
+queue-back h = record { requests = sym (h .requests); passed = sym (h .passed) }
+
+-- and through a third
+pub queue-through : {q r s : Queues} {c : ℕ} → QueueAgrees q r c → QueueAgrees r s c → QueueAgrees q s c
+queue-through h g = record { requests = h .requests ∙ g .requests; passed = h .passed ∙ g .passed }
 
 -- two lists of pending words agree, due cycle by due cycle, once high ones are hidden
 abbrev pub PendingAgree : (ℕ → Bool) → List ℕ → List ℕ → Type 0

@@ -1,7 +1,7 @@
 -- The second step of a tick at a high owner: the low classes see nothing but that a column command of theirs goes out when it is due.
 -- Assumes nothing.
 use mathlib.Core.Path.{_≡_, refl, sym, ap, _∙_}
-use mathlib.Core.Logic.{⊎-elim}
+use mathlib.Core.Logic.{_≢_, ⊎-elim}
 use mathlib.Core.Bool.{Bool, true, false, cond}
 use mathlib.Core.List.{List}
 use Prim.Native.Nat.{ℕ, _+_, _%_, _<_}
@@ -14,15 +14,15 @@ use Rattle.basics.proofs.Truth.{either, not-both, on-either}
 use Rattle.requests.specs.Word.{classOf, columnNumber, commandNumber}
 use Rattle.flight.specs.Flight.{dueAt, sentAt}
 use Rattle.rules.specs.Wire.{activated}
-use Rattle.rules.specs.Step.{Bus, dueColumn, going, canActivate, drive}
+use Rattle.rules.specs.Step.{Bus, dueColumn, goesAt, going, canActivate, drive}
 use Rattle.rules.specs.History.{Each}
 use Rattle.requests.proofs.Word.{word-back, column-class}
 use Rattle.rules.proofs.Range.{sound-offer, right-class, Fits, BusRange, goes-waits, going-right, going-sound, due-offer}
 use Rattle.rules.proofs.PendingWords.{inside}
 use Rattle.rules.proofs.Step.{outcome}
-use Rattle.rules.proofs.Queue.{dequeue-beside}
+use Rattle.rules.proofs.Queue.{dequeue-else-passed, dequeue-beside}
 use Rattle.extract.specs.Extract.{hideWord}
-use Rattle.noninterference.proofs.Low.{QueuesAgree, PendingAgree}
+use Rattle.noninterference.proofs.Low.{QueuesAgree, queue-self, PendingAgree}
 use Rattle.noninterference.proofs.Flights.{stored-unseen}
 
 -- ---- hidden words
@@ -69,9 +69,11 @@ module _ (low : ℕ → Bool) (n : ℕ) (b : Bus) (range : BusRange n b) (high :
 
   pub quiet-queues : QueuesAgree low (drive b .queues) (b .queues)
   quiet-queues =
-      outcome b (λ d. QueuesAgree low (d .queues) (b .queues)) (λ due c i. refl)
-      (λ due e c i. dequeue-beside (b .queues) (b .owner) c (λ s. not-both i (ap low s ∙ high)))
-      (λ due stays c i. refl)
+      outcome b (λ d. QueuesAgree low (d .queues) (b .queues)) (λ due c i. queue-self (b .queues) c)
+      (λ due e c i.
+      let apart : c ≢ b .owner = λ s. not-both i (ap low s ∙ high) in
+      record { requests = dequeue-beside (b .queues) (b .owner) c apart (goesAt b); passed = dequeue-else-passed (b .queues) (b .owner) (goesAt b) c apart })
+      (λ due stays c i. queue-self (b .queues) c)
 
   -- a high word that is stored is not seen
   unseen : (pending : List ℕ) (delay : ℕ) → length pending ≡ 32 → delay < 32 → Each (Fits n delay) t pending → canActivate b ≡ true → PendingAgree low (set pending ((t + delay) % 32) (going b)) pending

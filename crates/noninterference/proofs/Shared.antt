@@ -1,40 +1,36 @@
 -- The second step of a tick at the same low owner: both runs do the same.
 -- Assumes nothing.
 use mathlib.Core.Path.{_≡_, refl, sym, ap, ap₂, _∙_, subst}
-use mathlib.Core.Logic.{_≢_, inl, inr, ⊎-elim}
-use mathlib.Core.Bool.{Bool, true, _&&_}
-use mathlib.Core.List.{List, [], _∷_}
+use mathlib.Core.Logic.{inl, inr, ⊎-elim}
+use mathlib.Core.Bool.{Bool, true, _&&_, _||_}
+use mathlib.Core.List.{List, _++_}
 use Prim.Native.Nat.{ℕ, _+_, _%_, _<_}
-use native.Mathlib.Nat.{not-suc-le-zero}
 use native.Mathlib.Omega.{arith}
-use borrow.Author.Tests.{ltb-true}
 use lib.Dec.{ltb, eqb}
-use lib.ListN.{getD, set}
-use Rattle.basics.proofs.Truth.{either, and-fails-left, and-fails-right}
+use lib.ListN.{getD, set, take, drop}
+use Rattle.basics.specs.Below.{first}
+use Rattle.basics.proofs.Truth.{either}
+use Rattle.basics.proofs.Below.{first-same, getD-listOf}
 use Rattle.basics.proofs.Stores.{same-or-other, stored-in-both}
-use Rattle.requests.specs.Word.{kindOf, bankOf, requestOf, soundWord}
-use Rattle.queues.specs.Waiting.{lengthOf, waiting}
+use Rattle.requests.specs.Sizes.{mostPassed}
+use Rattle.requests.specs.Word.{kindOf, bankOf, requestOf}
+use Rattle.queues.specs.Waiting.{lengthOf, waitingAt, waiting}
 use Rattle.flight.specs.Flight.{activateAt, sentAt}
-use Rattle.rules.specs.Queue.{dequeue}
+use Rattle.rules.specs.Queue.{passedAfter, dequeue}
 use Rattle.rules.specs.Wire.{gapsMet, offsetAllows, activated}
-use Rattle.rules.specs.Step.{Driven, Bus, dueColumn, goesAt, going, canActivate, columnSent, requestSent, nothingSent, drive}
+use Rattle.rules.specs.Step.{Driven, Bus, dueColumn, mayGo, goesAt, going, canActivate, columnSent, requestSent, nothingSent, drive}
 use Rattle.requests.specs.declared.Wires.the-variants.{Activate, Column}
 use Rattle.queues.specs.declared.Queues.{Queues}
 use Rattle.flight.specs.declared.Flight.{Flight}
-use Rattle.rules.proofs.Range.{sound-bank, sound-kind, BusRange, goes-waits, going-sound}
+use Rattle.rules.proofs.Range.{sound-bank, sound-kind, BusRange, goes-waits, waiting-sound, going-sound}
 use Rattle.rules.proofs.Step.{drive-column, drive-nothing, drive-activate}
-use Rattle.rules.proofs.Queue.{dequeue-first, dequeue-beside}
+use Rattle.rules.proofs.Queue.{dequeue-passed, dequeue-else-passed, dequeue-closes, dequeue-beside}
 use Rattle.rules.proofs.PendingWords.{inside}
 use Rattle.rules.proofs.Wire.{gap-shift}
 use Rattle.extract.specs.Extract.{hideWord}
-use Rattle.noninterference.proofs.Low.{QueuesAgree, PendingAgree, LastAgree, LastsAgree}
+use Rattle.noninterference.proofs.Low.{QueueAgrees, QueuesAgree, PendingAgree, LastAgree, LastsAgree}
 use Rattle.noninterference.proofs.Offers.{same-length}
 use Rattle.noninterference.proofs.Flights.{stored-both, same-gaps}
-
--- what is left of a list without its first
-abbrev rest : List ℕ → List ℕ
-rest [] = []
-rest (x ∷ xs) = xs
 
 last-later : (dead t x y : ℕ) → LastAgree dead t x y → LastAgree dead (t + 1) x y
 last-later dead t x y h = ⊎-elim (λ e. inl e) (λ old. inr (gap-shift x dead dead t (t + 1) (omega arith) (old .0), gap-shift y dead dead t (t + 1) (omega arith) (old .1))) h
@@ -71,59 +67,71 @@ module _ (low : ℕ → Bool) (n : ℕ) (b : Bus) (r : Queues) (g : Flight) wher
     abbrev owner : ℕ
     owner = b .owner
 
-    same-count : lengthOf q owner ≡ lengthOf r owner
-    same-count = same-length q r owner (queues owner is-low)
+    -- as many wait in both
+    as-many : lengthOf q owner ≡ lengthOf r owner
+    as-many = same-length q r owner (queues owner is-low .requests)
 
-    -- a request goes in both or in neither
-    same-waits : ltb (goesAt b) (lengthOf q owner) ≡ ltb (goesAt c) (lengthOf r owner)
+    -- so a place that is taken in the first is taken in the second
+    waits-too : (k : ℕ) → k < lengthOf q owner → k < lengthOf r owner
+    waits-too k some = subst (λ (i : ℕ). k < i) as-many some
+
+    -- the same word waits at each place
+    same-word : (k : ℕ) → k < lengthOf q owner → waitingAt q owner k ≡ waitingAt r owner k
+    unfolding waiting
+    same-word k some =
+        sym (getD-listOf (waitingAt q owner) (lengthOf q owner) k some)
+        ∙ ap (λ (l : List ℕ). getD l k 0) (queues owner is-low .requests)
+        ∙ getD-listOf (waitingAt r owner) (lengthOf r owner) k (waits-too k some)
+
+    -- it may go in both or in neither: as many have passed the oldest, and its gaps are met in both or in neither
+    same-may : (k : ℕ) → k < lengthOf q owner → mayGo b k ≡ mayGo c k
+    unfolding mayGo
+    same-may k some =
+        let w = waitingAt q owner k in
+        let sound = waiting-sound n b one k some in
+        ap₂ (λ (passed : ℕ) (met : Bool). (eqb k 0 || ltb passed mostPassed) && met) (queues owner is-low .passed)
+        (same-gaps (b .timing) t f g w (one .timed) (sound-bank n w sound) (sound-kind n w sound) lasts ∙ ap (λ (x : ℕ). gapsMet (b .timing) g x t) (same-word k some))
+
+    -- so the first that may go is at the same place
+    same-place : goesAt b ≡ goesAt c
     unfolding goesAt
-    same-waits = ap (ltb 0) same-count
+    same-place = first-same (mayGo b) (mayGo c) (lengthOf q owner) same-may ∙ ap (λ (k : ℕ). first k (mayGo c)) as-many
 
-    -- it is the same one
-    module _ (some : goesAt b < lengthOf q owner) where
-      waits : lengthOf q owner ≢ 0
-      waits e = not-suc-le-zero {n = goesAt b} (subst (λ (k : ℕ). goesAt b < k) e some)
-
-      both : going b ∷ waiting (dequeue q owner) owner ≡ going c ∷ waiting (dequeue r owner) owner
-      unfolding going goesAt
-      both =
-          let qr = one .queues in
-          let rr = two .queues in
-          sym (dequeue-first q owner (one .owner-small) (qr .slots-long) (qr .heads-long) (qr .lengths-long) waits)
-          ∙ queues owner is-low
-          ∙ dequeue-first r owner (one .owner-small) (rr .slots-long) (rr .heads-long) (rr .lengths-long) (λ e. waits (same-count ∙ e))
-
-      same-going : going b ≡ going c
-      same-going = ap (λ (l : List ℕ). getD l 0 0) both
-
-      same-rest : QueuesAgree low (dequeue q owner) (dequeue r owner)
-      same-rest d i =
-          same-or-other (λ k. waiting (dequeue q owner) k ≡ waiting (dequeue r owner) k) owner d (ap rest both)
-          (λ apart. dequeue-beside q owner d apart ∙ queues d i ∙ sym (dequeue-beside r owner d apart))
-
-      sound : soundWord n (going b) ≡ true
-      sound = going-sound n b one some
-
-      same-gaps-met : gapsMet (b .timing) f (going b) t ≡ gapsMet (b .timing) g (going c) t
-      same-gaps-met =
-          same-gaps (b .timing) t f g (going b) (one .timed) (sound-bank n (going b) sound) (sound-kind n (going b) sound) lasts
-          ∙ ap (λ (x : ℕ). gapsMet (b .timing) g x t) same-going
-
-    -- it can go in both or in neither
+    -- there is one in both or in neither
     same-can : canActivate b ≡ canActivate c
     unfolding canActivate
-    same-can =
-        let allows = offsetAllows (b .timing) (b .elided) t in
-        let waits-b = ltb (goesAt b) (lengthOf q owner) in
-        let waits-c = ltb (goesAt c) (lengthOf r owner) in
-        let gaps-b = gapsMet (b .timing) f (going b) t in
-        let gaps-c = gapsMet (b .timing) g (going c) t in
-        ⊎-elim
-        (λ some. ap₂ (λ (x y : Bool). allows && x && y) same-waits (same-gaps-met (ltb-true (goesAt b) (lengthOf q owner) some)))
-        (λ none.
-        and-fails-left (allows && waits-b) gaps-b (and-fails-right allows waits-b none)
-        ∙ sym (and-fails-left (allows && waits-c) gaps-c (and-fails-right allows waits-c (sym same-waits ∙ none))))
-        (either waits-b)
+    same-can = ap₂ (λ (k m : ℕ). offsetAllows (b .timing) (b .elided) t && ltb k m) same-place as-many
+
+    -- and it is the same one
+    same-going : goesAt b < lengthOf q owner → going b ≡ going c
+    unfolding going
+    same-going some = same-word (goesAt b) some ∙ ap (waitingAt r owner) same-place
+
+    -- the queues agree once it has gone: both close up from the same place, and the count of both goes on or starts anew
+    same-rest-at : (k : ℕ) → k < lengthOf q owner → QueuesAgree low (dequeue q owner k) (dequeue r owner k)
+    same-rest-at k some d i =
+        let qr = one .queues in
+        let rr = two .queues in
+        let small = one .owner-small in
+        same-or-other (QueueAgrees (dequeue q owner k) (dequeue r owner k)) owner d
+        (record {
+          requests =
+              dequeue-closes q owner small (qr .slots-long) (qr .heads-long) (qr .lengths-long) k some (qr .queue owner small .short)
+              ∙ ap (λ (l : List ℕ). take k l ++ drop (k + 1) l) (queues owner is-low .requests)
+              ∙ sym (dequeue-closes r owner small (rr .slots-long) (rr .heads-long) (rr .lengths-long) k (waits-too k some) (rr .queue owner small .short));
+          passed =
+              dequeue-passed q owner k (subst (λ (m : ℕ). owner < m) (sym (qr .passed-long)) small)
+              ∙ ap (passedAfter k) (queues owner is-low .passed)
+              ∙ sym (dequeue-passed r owner k (subst (λ (m : ℕ). owner < m) (sym (rr .passed-long)) small));
+        })
+        (λ apart.
+        record {
+          requests = dequeue-beside q owner d apart k ∙ queues d i .requests ∙ sym (dequeue-beside r owner d apart k);
+          passed = dequeue-else-passed q owner k d apart ∙ queues d i .passed ∙ sym (dequeue-else-passed r owner k d apart);
+        })
+
+    same-rest : goesAt b < lengthOf q owner → QueuesAgree low (dequeue q owner (goesAt b)) (dequeue r owner (goesAt c))
+    same-rest some = subst (λ (k : ℕ). QueuesAgree low (dequeue q owner (goesAt b)) (dequeue r owner k)) same-place (same-rest-at (goesAt b) some)
 
     later : LastsAgree dead (t + 1) f g
     later =
@@ -159,7 +167,7 @@ module _ (low : ℕ → Bool) (n : ℕ) (b : Bus) (r : Queues) (g : Flight) wher
         let at = activateAt t (kindOf w) in
         let column = t + b .timing .column in
         let response = t + b .timing .response in
-        let bank = sound-bank n w (sound some) in
+        let bank = sound-bank n w (going-sound n b one some) in
         let bank-f = subst (λ (k : ℕ). bankOf w < k) (sym (fr .banks-long)) bank in
         let bank-g = subst (λ (k : ℕ). bankOf w < k) (sym (gr .banks-long)) bank in
         let same-banks : set (g .banks) (bankOf w) at ≡ set (g .banks) (bankOf v) (activateAt t (kindOf v)) = ap (λ (x : ℕ). set (g .banks) (bankOf x) (activateAt t (kindOf x))) same in

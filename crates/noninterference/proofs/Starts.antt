@@ -61,7 +61,7 @@ module _ (p : Policy) (given : policyInRange p ≡ true) (low : ℕ → Bool) (c
 
     same-lengths : EntriesAgree low (s .queues .lengths) (r .queues .lengths)
     unfolding lengthOf
-    same-lengths c i = same-length (s .queues) (r .queues) c (alike .queues c i)
+    same-lengths c i = same-length (s .queues) (r .queues) c (alike .queues c i .requests)
 
     started : TurnsAgree low (picked s) other
     started =

@@ -28,7 +28,7 @@ use Rattle.rules.proofs.PendingWords.{inside}
 use Rattle.rules.proofs.Range.{Ranged, ranged, BusRange, bus-range}
 use Rattle.rules.proofs.History.{Midway, midway}
 use Rattle.extract.specs.Extract.{hideWord, ownerSeen, hideTurn}
-use Rattle.noninterference.proofs.Low.{Downward, QueuesAgree, PendingAgree, LastsAgree}
+use Rattle.noninterference.proofs.Low.{Downward, QueuesAgree, queue-back, queue-through, PendingAgree, LastsAgree}
 use Rattle.noninterference.proofs.Alike.{Alike}
 use Rattle.noninterference.proofs.Flights.{stored-both}
 use Rattle.noninterference.proofs.Starts.{Begun, begun}
@@ -141,7 +141,7 @@ module _ (p : Policy) (given : policyInRange p ≡ true) (low : ℕ → Bool) (c
         stored-both low (s .flight .columns) (r .flight .columns) (t % 32) 0 0 (inside (s .flight .columns) (bus-s .flight .columns-long) t) (inside (r .flight .columns) (bus-r .flight .columns-long) t) refl (alike .columns)
         in
         record {
-          queues = λ c i. quiet-queues low n (busOf t s) bus-s one c i ∙ alike .queues c i ∙ sym (quiet-queues low n (busOf t r) bus-r two c i);
+          queues = λ c i. queue-through (quiet-queues low n (busOf t s) bus-s one c i) (queue-through (alike .queues c i) (queue-back (quiet-queues low n (busOf t r) bus-r two c i)));
           columns = λ i. quiet-columns low n (busOf t s) bus-s one i ∙ sent i ∙ sym (quiet-columns low n (busOf t r) bus-r two i);
           responses = λ i. quiet-responses low n (busOf t s) bus-s one i ∙ alike .responses i ∙ sym (quiet-responses low n (busOf t r) bus-r two i);
           lasts = λ i. absurd (not-both i one);

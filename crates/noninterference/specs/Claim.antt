@@ -10,7 +10,7 @@ use Rattle.policy.specs.Policy.{isClass, flows}
 use Rattle.file.specs.File.{readFile}
 use Rattle.file.specs.Taken.{Bytes}
 use Rattle.policy.specs.declared.Policy.{Policy}
-use Rattle.queues.specs.Waiting.{waiting}
+use Rattle.queues.specs.Waiting.{passedOf, waiting}
 use Rattle.state.specs.Fresh.{fresh}
 use Rattle.requests.specs.Trace.{callOf}
 use Rattle.rules.specs.Calls.{stateAfter, logOf}
@@ -50,6 +50,8 @@ Agree p l xs ys = purge p l xs ≡ purge p l ys
 -- of one class in two states: "equal .. are its waiting requests, oldest first, its turns left and its mark"
 pub record SameFor (c : ℕ) (s r : State) : Type 0 where
   pub requests : waiting (s .queues) c ≡ waiting (r .queues) c
+  -- W-203: "and so do the counts of each class that may flow to it": how many have passed its oldest
+  pub passed : passedOf (s .queues) c ≡ passedOf (r .queues) c
   pub left : getD (s .turns .left) c 0 ≡ getD (r .turns .left) c 0
   pub pointer : getD (s .turns .pointers) c 0 ≡ getD (r .turns .pointers) c 0
 

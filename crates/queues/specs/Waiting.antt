@@ -1,18 +1,18 @@
 -- The waiting requests: how they are stored, and what 13 refuses of them. Those of a class, oldest first, are a ring of 8 places: its head's place, its length, and the
--- words from there on.
+-- words from there on. Beside each queue stands how many requests have passed its oldest.
 use mathlib.Core.Bool.{Bool, _&&_, _||_}
 use mathlib.Core.List.{List}
 use Prim.Native.Nat.{ℕ, _+_, _*_, _%_}
 use lib.Dec.{leb, ltb, eqb}
 use lib.ListN.{getD}
 use Rattle.basics.specs.Below.{listOf, every}
-use Rattle.requests.specs.Sizes.{ringPlaces}
+use Rattle.requests.specs.Sizes.{ringPlaces, mostPassed}
 use Rattle.requests.specs.Word.{classOf, soundWord}
 use Rattle.queues.specs.declared.Queues.{Queues}
 
 -- the queues, of their arrays
-abbrev pub queuesOf : List ℕ → List ℕ → List ℕ → Queues
-queuesOf slots heads lengths = record { slots = slots; heads = heads; lengths = lengths }
+abbrev pub queuesOf : List ℕ → List ℕ → List ℕ → List ℕ → Queues
+queuesOf slots heads lengths passed = record { slots = slots; heads = heads; lengths = lengths; passed = passed }
 
 unfoldable pub headOf : Queues → ℕ → ℕ
 headOf q c = getD (q .heads) c 0
@@ -20,6 +20,10 @@ headOf q c = getD (q .heads) c 0
 -- how many requests of the class wait
 unfoldable pub lengthOf : Queues → ℕ → ℕ
 lengthOf q c = getD (q .lengths) c 0
+
+-- W-203: how many requests of the class have passed its present oldest while that was the oldest
+unfoldable pub passedOf : Queues → ℕ → ℕ
+passedOf q c = getD (q .passed) c 0
 
 -- where the class's k-th request from the oldest, which is 0, is stored
 unfoldable pub place : ℕ → ℕ → ℕ → ℕ
@@ -42,5 +46,6 @@ rightWord n c w = soundWord n w && eqb (classOf w) c
 unfoldable pub ringInRange : ℕ → List ℕ → ℕ → ℕ → ℕ → Bool
 ringInRange n slots c head len = leb len ringPlaces && ltb head ringPlaces && every ringPlaces (λ k. leb len k || rightWord n c (getD slots (place c head k) 0))
 
+-- W-203: "A stored count above 15 gets 13."
 unfoldable pub queueInRange : ℕ → Queues → ℕ → Bool
-queueInRange n q c = ringInRange n (q .slots) c (headOf q c) (lengthOf q c)
+queueInRange n q c = ringInRange n (q .slots) c (headOf q c) (lengthOf q c) && leb (passedOf q c) mostPassed

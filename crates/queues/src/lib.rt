@@ -15,6 +15,9 @@ pub const RING_PLACES: usize = 8;
 
 pub type Slots = [u32; 128];
 
+// How many requests may pass a class's oldest while it is the oldest. Then it goes next.
+pub const MOST_PASSED: usize = 15;
+
 // The waiting requests, by their words: a ring of eight places for each class, at eight times the class.
 pub struct Queues {
     pub slots: Slots,
@@ -22,6 +25,8 @@ pub struct Queues {
     pub heads: [usize; 16],
     // How many requests of each class wait.
     pub lengths: [usize; 16],
+    // How many requests of each class have passed its present oldest while that was the oldest.
+    pub passed: [usize; 16],
 }
 
 // Where the k-th request from a class's oldest is stored. Of a number above 15, which is no class and of which document 01 says nothing, it is the ring of the number
@@ -70,18 +75,21 @@ fn queue_in_range(classes: usize, slots: &Slots, class: usize, head: usize, leng
     ring_in_range(classes, slots, class, head, length)
 }
 
-// Every class's queue is in range.
+// Every class's queue is in range, and no more have passed its oldest than may.
 pub fn queues_in_range(
     classes: usize,
     slots: &Slots,
     heads: &[usize; 16],
     lengths: &[usize; 16],
+    passed: &[usize; 16],
 ) -> bool
-    ensures { λ r. ⌜ r ≡ every 16 (queueInRange classes (queuesOf (now (slots .entry)) (now (heads .entry)) (now (lengths .entry)))) ⌝ }
+    ensures { λ r. ⌜ r
+        ≡ every 16 (queueInRange classes (queuesOf (now (slots .entry)) (now (heads .entry)) (now (lengths .entry)) (now (passed .entry)))) ⌝ }
 {
     let mut class = 0;
     while class < 16 {
-        if !queue_in_range(classes, slots, class, heads[class], lengths[class]) {
+        let fits = queue_in_range(classes, slots, class, heads[class], lengths[class]);
+        if !(fits & (passed[class] <= MOST_PASSED)) {
             return false;
         }
         class += 1;

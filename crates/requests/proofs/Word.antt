@@ -2,7 +2,7 @@
 -- wires that a command's number says those that it was made from.
 -- Assumes nothing.
 use mathlib.Core.Path.{_≡_, ap, ap₂, _∙_}
-use mathlib.Core.Bool.{true}
+use mathlib.Core.Bool.{true, false}
 use Prim.Native.Nat.{ℕ, _+_, _*_, _/_, _%_, _<_, min}
 use native.Mathlib.Omega.{arith}
 use borrow.Author.Tests.{eqb-true, eq-eqb, ne-eqb}
@@ -90,10 +90,17 @@ module _ (w : ℕ) (e : isOffer w ≡ true) where
       ap₂ (λ (x y : ℕ). record { class = x; kind = y; bank = (w + 1073741824) / 65536 % 16; tag = (w + 1073741824) % 65536 }) class kind
       ∙ ap₂ (λ (x y : ℕ). record { class = w / 16777216 % 32; kind = w / 1048576 % 4; bank = x; tag = y }) bank tag
 
+  -- a column command's number is no offer's word
+  pub column-no-offer : isOffer (columnNumber w) ≡ false
+  unfolding columnNumber isOffer
+  column-no-offer =
+      let k = w + 1073741824 in
+      and-fails-left (eqb (k / 536870912) 4) (eqb (k / 4194304 % 4) 0) (ne-eqb (k / 536870912) 4 (λ z. omega (arith, z, top)))
+
   pub wires-column : wiresOf (columnNumber w) ≡ Column (requestOf w)
-  unfolding wiresOf columnNumber isOffer
+  unfolding wiresOf columnNumber
   wires-column =
       let k = w + 1073741824 in
       on-false (eqb k 0) Nothing _ (ne-eqb k 0 (λ z. omega (arith, z)))
-      ∙ on-false (isOffer k) (Activate (requestOf k)) (Column (requestOf k)) (and-fails-left (eqb (k / 536870912) 4) (eqb (k / 4194304 % 4) 0) (ne-eqb (k / 536870912) 4 (λ z. omega (arith, z, top))))
+      ∙ on-false (isOffer k) (Activate (requestOf k)) (Column (requestOf k)) column-no-offer
       ∙ ap Column same-request

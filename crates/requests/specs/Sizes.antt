@@ -9,6 +9,10 @@ lastCycle = 16777215
 abbrev pub ringPlaces : ℕ
 ringPlaces = 8
 
+-- W-203: "A request that has been the oldest while 15 others passed it goes next"
+abbrev pub mostPassed : ℕ
+mostPassed = 15
+
 -- "bank in 16 to 19 (0 to 7)"
 abbrev pub bankCount : ℕ
 bankCount = 8

@@ -21,9 +21,9 @@ use Rattle.basics.proofs.Stores.{same-or-other}
 use Rattle.policy.proofs.Laws.{policy-laws}
 use Rattle.requests.specs.Sizes.{lastCycle}
 use Rattle.requests.specs.Word.{classOf, kindOf, bankOf, requestOf, wordOf, classFits, bankAndKindFit, soundWord, columnNumber, commandNumber, wiresOf}
-use Rattle.queues.specs.Waiting.{headOf, lengthOf, waitingAt, rightWord}
+use Rattle.queues.specs.Waiting.{headOf, lengthOf, passedOf, waitingAt, rightWord}
 use Rattle.flight.specs.Flight.{dueAt, activateAt, sentAt}
-use Rattle.rules.specs.Queue.{enqueue, dequeue, offerStatus, queuesAfter}
+use Rattle.rules.specs.Queue.{enqueue, passedAfter, dequeue, offerStatus, queuesAfter}
 use Rattle.rules.specs.Wire.{activated}
 use Rattle.rules.specs.Step.{turnsAt, Bus, dueColumn, goesAt, going, canActivate, drive, answered}
 use Rattle.state.specs.Fresh.{zeros, emptyQueues, nothingInFlight, stateAtStart, freshState, zeroState, fresh}
@@ -40,7 +40,7 @@ use Rattle.state.specs.declared.Ticked.{Ticked}
 use Rattle.requests.proofs.Word.{class-back, kind-back, bank-back, is-offer, word-back, wires-activate, wires-column}
 use Rattle.rules.proofs.Queue as waiting
 use Rattle.rules.proofs.Wire.{gap-shift, gap-new, gap-none, stored-new, Before}
-use Rattle.rules.proofs.Range.{sound-offer, sound-bank, sound-kind, QueueRange, QueuesRange, Fits, FlightRange, Ranged, ranged, in-range, BusRange, bus-range, goes-waits, going-sound, due-offer}
+use Rattle.rules.proofs.Range.{sound-offer, sound-bank, sound-kind, QueueRange, QueuesRange, Fits, FlightRange, Ranged, ranged, in-range, BusRange, bus-range, goes-waits, goes-past, going-sound, due-offer}
 use Rattle.rules.proofs.PendingWords.{Later}
 use Rattle.rules.proofs.FlightKept.{columns-next, responses-next, activates-next}
 use Rattle.rules.proofs.Step.{outcome}
@@ -70,12 +70,13 @@ unfolding dueAt
 none-due t = zero-at 32 (t % 32)
 
 empty-queue : (n c : ℕ) → QueueRange n emptyQueues c
-unfolding emptyQueues zeros headOf lengthOf
+unfolding emptyQueues zeros headOf lengthOf passedOf
 empty-queue n c =
     record {
       short = subst (λ (k : ℕ). k ≤ 8) (sym (zero-at 16 c)) zero-le;
       in-ring = subst (λ (k : ℕ). k < 8) (sym (zero-at 16 c)) (lit< tt);
       right = λ k l. absurd (not-suc-le-zero {n = k} (subst (λ (m : ℕ). k < m) (zero-at 16 c) l));
+      few-passed = subst (λ (k : ℕ). k ≤ 15) (sym (zero-at 16 c)) zero-le;
     }
 
 -- ---- the queues
@@ -98,6 +99,7 @@ module _ (n : ℕ) (q : Queues) (r : QueuesRange n q) (c : ℕ) (small : c < 16)
               let last : k ≡ lengthOf q c = omega (arith, l, h, longer) in
               ap (rightWord n c) (ap (waitingAt (enqueue q c w) c) last ∙ waiting.enqueue-last q c w small (r .slots-long)) ∙ right)
               (lt-or-ge k (lengthOf q c));
+          few-passed = subst (λ (k : ℕ). k ≤ 15) (sym (waiting.enqueue-passed q c w c)) (r .queue c small .few-passed);
         }
 
     beside : (d : ℕ) → d < 16 → d ≢ c → QueueRange n (enqueue q c w) d
@@ -108,6 +110,7 @@ module _ (n : ℕ) (q : Queues) (r : QueuesRange n q) (c : ℕ) (small : c < 16)
           right =
               λ k h.
               ap (rightWord n d) (waiting.enqueue-apart q c w d k apart) ∙ r .queue d l .right k (subst (λ (m : ℕ). k < m) (waiting.enqueue-else q c w d apart) h);
+          few-passed = subst (λ (k : ℕ). k ≤ 15) (sym (waiting.enqueue-passed q c w d)) (r .queue d l .few-passed);
         }
 
     pub enqueue-kept : QueuesRange n (enqueue q c w)
@@ -117,42 +120,61 @@ module _ (n : ℕ) (q : Queues) (r : QueuesRange n q) (c : ℕ) (small : c < 16)
           slots-long = length-set (q .slots) _ w ∙ r .slots-long;
           heads-long = r .heads-long;
           lengths-long = length-set (q .lengths) c (lengthOf q c + 1) ∙ r .lengths-long;
+          passed-long = r .passed-long;
           queue = λ d l. same-or-other (QueueRange n (enqueue q c w)) c d enqueued (beside d l);
         }
 
-  module _ (some : lengthOf q c ≢ 0) where
+  module _ (m : ℕ) (some : m < lengthOf q c) (passes : ((m ≡ 0) → ⊥) → passedOf q c < 15) where
     in-heads : c < length (q .heads)
     in-heads = subst (λ (k : ℕ). c < k) (sym (r .heads-long)) small
 
-    shorter : lengthOf (dequeue q c) c ≡ lengthOf q c - 1
-    shorter = waiting.dequeue-shorter q c (subst (λ (k : ℕ). c < k) (sym (r .lengths-long)) small)
+    shorter : lengthOf (dequeue q c m) c ≡ lengthOf q c - 1
+    shorter = waiting.dequeue-shorter q c m (subst (λ (k : ℕ). c < k) (sym (r .lengths-long)) small)
 
-    dequeued : QueueRange n (dequeue q c) c
+    -- the count goes to 15 at most
+    counted : passedAfter m (passedOf q c) ≤ 15
+    unfolding passedAfter
+    counted =
+        ⊎-elim (λ first. rw first zero-le) (λ other. rw other (omega (arith, passes (eqb-false m 0 other)))) (either (eqb m 0))
+
+    dequeued : QueueRange n (dequeue q c m) c
     dequeued =
         record {
           short = omega (arith, shorter, r .queue c small .short);
-          in-ring = subst (λ (k : ℕ). k < 8) (sym (waiting.dequeue-head q c in-heads)) (omega arith);
-          right = λ k l. ap (rightWord n c) (waiting.dequeue-next q c in-heads k) ∙ r .queue c small .right (k + 1) (omega (arith, l, shorter));
+          in-ring = subst (λ (k : ℕ). k < 8) (sym (waiting.dequeue-head q c m in-heads)) (omega arith);
+          right =
+              λ k l.
+              ⊎-elim
+              (λ before.
+              ap (rightWord n c) (waiting.dequeue-before q c m small (r .slots-long) in-heads k before (omega (arith, some, r .queue c small .short)))
+              ∙ r .queue c small .right k (omega (arith, before, some)))
+              (λ after.
+              ap (rightWord n c) (waiting.dequeue-after q c m in-heads k after (omega (arith, l, shorter, r .queue c small .short)))
+              ∙ r .queue c small .right (suc k) (omega (arith, l, shorter)))
+              (lt-or-ge k m);
+          few-passed = subst (λ (k : ℕ). k ≤ 15) (sym (waiting.dequeue-passed q c m (subst (λ (k : ℕ). c < k) (sym (r .passed-long)) small))) counted;
         }
 
-    left-alone : (d : ℕ) → d < 16 → d ≢ c → QueueRange n (dequeue q c) d
+    left-alone : (d : ℕ) → d < 16 → d ≢ c → QueueRange n (dequeue q c m) d
     left-alone d l apart =
         record {
-          short = subst (λ (k : ℕ). k ≤ 8) (sym (waiting.dequeue-else q c d apart)) (r .queue d l .short);
-          in-ring = subst (λ (k : ℕ). k < 8) (sym (waiting.dequeue-else-head q c d apart)) (r .queue d l .in-ring);
+          short = subst (λ (k : ℕ). k ≤ 8) (sym (waiting.dequeue-else q c m d apart)) (r .queue d l .short);
+          in-ring = subst (λ (k : ℕ). k < 8) (sym (waiting.dequeue-else-head q c m d apart)) (r .queue d l .in-ring);
           right =
               λ k h.
-              ap (rightWord n d) (waiting.dequeue-apart q c d k apart) ∙ r .queue d l .right k (subst (λ (m : ℕ). k < m) (waiting.dequeue-else q c d apart) h);
+              ap (rightWord n d) (waiting.dequeue-apart q c m d k apart) ∙ r .queue d l .right k (subst (λ (i : ℕ). k < i) (waiting.dequeue-else q c m d apart) h);
+          few-passed = subst (λ (k : ℕ). k ≤ 15) (sym (waiting.dequeue-else-passed q c m d apart)) (r .queue d l .few-passed);
         }
 
-    pub dequeue-kept : QueuesRange n (dequeue q c)
+    pub dequeue-kept : QueuesRange n (dequeue q c m)
     unfolding dequeue
     dequeue-kept =
         record {
-          slots-long = r .slots-long;
+          slots-long = waiting.closed-long c (headOf q c) m (q .slots) ∙ r .slots-long;
           heads-long = length-set (q .heads) c ((headOf q c + 1) % 8) ∙ r .heads-long;
           lengths-long = length-set (q .lengths) c (lengthOf q c - 1) ∙ r .lengths-long;
-          queue = λ d l. same-or-other (QueueRange n (dequeue q c)) c d dequeued (left-alone d l);
+          passed-long = length-set (q .passed) c (passedAfter m (passedOf q c)) ∙ r .passed-long;
+          queue = λ d l. same-or-other (QueueRange n (dequeue q c m)) c d dequeued (left-alone d l);
         }
 
 -- ---- the second step, and what is in flight once the third is done
@@ -170,7 +192,7 @@ module _ (n : ℕ) (b : Bus) (r : BusRange n b) where
   queues-kept : QueuesRange n (drive b .queues)
   queues-kept =
       outcome b (λ d. QueuesRange n (d .queues)) (λ due. r .queues)
-      (λ due e. dequeue-kept n (b .queues) (r .queues) (b .owner) (r .owner-small) (λ none. not-suc-le-zero {n = goesAt b} (subst (λ (k : ℕ). goesAt b < k) none (goes-waits n b r e))))
+      (λ due e. dequeue-kept n (b .queues) (r .queues) (b .owner) (r .owner-small) (goesAt b) (goes-waits n b r e) (goes-past n b r e))
       (λ due stays. r .queues)
 
   -- a word due in fewer cycles than a bound is due a cycle later in fewer still, and a new one in its delay
@@ -285,7 +307,7 @@ fresh-ranged p given =
       fit = given;
       same-count = refl;
       cycle-bound = zero-le;
-      queues = record { slots-long = refl; heads-long = refl; lengths-long = refl; queue = λ c l. empty-queue (p .classes) c };
+      queues = record { slots-long = refl; heads-long = refl; lengths-long = refl; passed-long = refl; queue = λ c l. empty-queue (p .classes) c };
       turns =
           record {
             owner-class = laws .order .zero-class;

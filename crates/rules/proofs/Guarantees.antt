@@ -17,14 +17,14 @@ use Rattle.basics.specs.Below.{count}
 use Rattle.policy.specs.Laws.{TimingLaws}
 use Rattle.policy.specs.Policy.{isClass, flows, strictly, least, cap, minimum, homeTurn, homeClass, inRange as policyInRange}
 use Rattle.policy.specs.declared.Policy.{Policy}
-use Rattle.basics.proofs.Truth.{either, false-unless, and-left, and-right, and-both, or-right}
+use Rattle.basics.proofs.Truth.{either, false-unless, and-left, and-right, and-both, or-left, or-right}
 use Rattle.basics.proofs.Stores.{stored-at}
-use Rattle.basics.proofs.Below.{count-under, count-either}
+use Rattle.basics.proofs.Below.{some-at, first-some, count-under, count-either}
 use Rattle.order.proofs.Orders.{apart-strictly}
 use Rattle.policy.proofs.Laws.{policy-laws}
 use Rattle.requests.specs.Word.{kindOf, bankOf, commandNumber}
 use Rattle.requests.proofs.Word.{word-back}
-use Rattle.queues.specs.Waiting.{lengthOf, waitingAt}
+use Rattle.queues.specs.Waiting.{lengthOf, passedOf, waitingAt}
 use Rattle.queues.specs.declared.Queues.{Queues}
 use Rattle.flight.specs.Flight.{dueAt, sentAt, activateKind}
 use Rattle.flight.specs.declared.Flight.{Flight}
@@ -32,16 +32,16 @@ use Rattle.state.specs.Fresh.{freshState}
 use Rattle.state.specs.declared.State.{State}
 use Rattle.state.specs.declared.Turns.{Turns}
 use Rattle.rules.specs.Traversal.{firstClass}
-use Rattle.rules.specs.Step.{TurnStart, turnsAt, Driven, Bus, dueColumn, goesAt, going, canActivate, requestSent, drive, answered as afterAnswer}
+use Rattle.rules.specs.Step.{TurnStart, turnsAt, Driven, Bus, dueColumn, mayGo, goesAt, going, canActivate, requestSent, drive, answered as afterAnswer}
 use Rattle.rules.specs.Wire.{gapMet, gapsMetBy, gapsMet, offsetAllows}
 use Rattle.rules.specs.History.{Activates}
 use Rattle.rules.specs.Call.{busAt, afterTick}
 use Rattle.rules.specs.Calls.{Answer, lineOf, answerTo, logOf}
-use Rattle.rules.specs.Guarantees.{ticksIn, atTick, TickMade, firstTick, Started, Ended, Waits, headAt, owns, ownedIn, ActivatedIn, OwnTurn, Guarantees}
+use Rattle.rules.specs.Guarantees.{ticksIn, atTick, TickMade, firstTick, Started, Ended, Waits, owns, ownedIn, ActivatedAt, ActivatedIn, OwnTurn, Guarantees}
 use Rattle.rules.proofs.Wire.{gap-shift, kind-small}
 use Rattle.rules.proofs.PendingWords.{inside}
 use Rattle.rules.proofs.Step.{drive-column, drive-nothing, drive-activate}
-use Rattle.rules.proofs.Range.{FlightRange, ranged, BusRange, bus-range, going-sound, sound-offer, sound-bank, sound-kind}
+use Rattle.rules.proofs.Range.{FlightRange, ranged, BusRange, bus-range, goes-waits, waiting-sound, going-sound, sound-offer, sound-bank, sound-kind}
 use Rattle.rules.proofs.Calls.{cut-log}
 use Rattle.rules.proofs.ListTicks.{Grown}
 use Rattle.rules.proofs.ListTurns as list
@@ -158,7 +158,7 @@ module _ (p : Policy) (given : policyInRange p ≡ true) where
         let own = until-home c (h .0) k (list.earlier p given ws (k + h .0) (k + (p .epoch - 1)) (omega (arith, h .1)) l) (h .2) (h .3) waits in
         record { turn = own .turn; not-before = own .not-before; within = omega (arith, own .within, h .1); own = own .own; first = own .first; waits = own .waits; same-head = own .same-head }
 
-    -- ---- the head goes
+    -- ---- a request goes
 
     -- in a turn of class c, with a turn length of at least twice the dead time
     module _ (k c : ℕ) (own : owner k ≡ c) (twice : 2 * p .timing .dead ≤ turn) (waits : Waits p ws k c) (ended : Ended p ws k) where
@@ -168,7 +168,7 @@ module _ (p : Policy) (given : policyInRange p ≡ true) where
       abbrev first : ℕ
       first = firstTick p k
 
-      -- the tick by which it has gone: dead time less one after the turn's start
+      -- the tick by which one has gone: dead time less one after the turn's start
       abbrev latest : ℕ
       latest = first + (dead - 1)
 
@@ -181,15 +181,11 @@ module _ (p : Policy) (given : policyInRange p ≡ true) where
       within-turn : first + turn ≤ ticksIn p ws
       within-turn = let next : first + turn ≡ firstTick p (k + 1) = omega arith in omega (arith, next, ended)
 
-      -- the head has not gone yet, and nothing has been activated since the turn's start: by the latest tick every gap is met, and no column command is due then
+      -- nothing has been activated since the turn's start: by the latest tick every gap is met, and no column command is due then
       record Still (t : ℕ) : Type 0 where
         waiting : (lengthOf (atTick p ws t .queues) c ≡ 0) → ⊥
-        same : waitingAt (atTick p ws t .queues) c 0 ≡ headAt p ws k c
         clear : dueAt (atTick p ws t .flight .columns) latest ≡ 0
         rested : Activates (λ last. gapMet last dead latest ≡ true) (atTick p ws t .flight)
-
-      abbrev Goes : ℕ → Type 0
-      Goes t = answerTo p (atTick p ws t) 0 .command ≡ headAt p ws k c
 
       -- at the turn's start, since every last activate is before it and no column command is due its delay or more after it
       at-first : Still first
@@ -201,7 +197,6 @@ module _ (p : Policy) (given : policyInRange p ≡ true) where
           let early : (d : ℕ) → d < p .timing .column → d ≡ dead - 1 → ⊥ = λ d l e. lt-irrefl d (omega (arith, l, e, timed .column-bounds .1, timed .response-bounds .1)) in
           record {
             waiting = waits;
-            same = refl;
             clear = ⊎-elim (λ none. none) (λ due. absurd (early (dead - 1) (due .0) refl)) (flight .columns-due (dead - 1) (omega (arith, timed .dead-bounds .1)));
             rested =
                 record {
@@ -236,26 +231,26 @@ module _ (p : Policy) (given : policyInRange p ≡ true) where
         sound : BusRange (p .classes) bus
         sound = bus-range p s (ranged p s (list.at p given ws t under .fits)) turns (subst (λ (x : ℕ). x < 16) (sym has) small)
 
-        -- what goes is the head
-        goes-head : going bus ≡ headAt p ws k c
-        unfolding going goesAt
-        goes-head = ap (λ (x : ℕ). waitingAt (s .queues) x 0) has ∙ still .same
+        -- where one is activated, its word is the command
+        module _ (none : eqb (dueColumn bus) 0 ≡ true) (goes : canActivate bus ≡ true) where
+          goes-there : goesAt bus < lengthOf (s .queues) (turns .owner)
+          goes-there = goes-waits (p .classes) bus sound goes
 
-        some-waits : goesAt bus < lengthOf (s .queues) (turns .owner)
-        unfolding goesAt
-        some-waits = subst (λ (x : ℕ). 0 < lengthOf (s .queues) x) (sym has) (lt-of-le-ne zero-le (λ e. still .waiting (sym e)))
+          sent : (d : Driven) → d ≡ requestSent bus → commandNumber (d .wires) ≡ going bus
+          unfolding commandNumber
+          sent d e = ap (λ (x : Driven). commandNumber (x .wires)) e ∙ word-back (going bus) (sound-offer (p .classes) (going bus) (going-sound (p .classes) bus sound goes-there))
 
-        -- where it is activated, its word is the command
-        sent : (d : Driven) → d ≡ requestSent bus → commandNumber (d .wires) ≡ headAt p ws k c
-        unfolding commandNumber
-        sent d e =
-            ap (λ (x : Driven). commandNumber (x .wires)) e
-            ∙ word-back (going bus) (sound-offer (p .classes) (going bus) (going-sound (p .classes) bus sound some-waits))
-            ∙ goes-head
-
-        goes-by : drive bus ≡ requestSent bus → Goes t
-        unfolding afterTick
-        goes-by e = ap (λ (a : Answer). a .command) (list.answered p given ws t under) ∙ sent (drive bus) e
+          activates : ActivatedAt p ws t c
+          unfolding afterTick going
+          activates =
+              record {
+                place = goesAt bus;
+                waits = subst (λ (x : ℕ). goesAt bus < lengthOf (s .queues) x) has goes-there;
+                command =
+                    ap (λ (a : Answer). a .command) (list.answered p given ws t under)
+                    ∙ sent (drive bus) (drive-activate bus none goes)
+                    ∙ ap (λ (x : ℕ). waitingAt (s .queues) x (goesAt bus)) has;
+              }
 
         -- where it is not, all stays as it was
         record Stayed (d : Driven) : Type 0 where
@@ -264,13 +259,13 @@ module _ (p : Policy) (given : policyInRange p ≡ true) where
           banks : d .flight .banks ≡ s .flight .banks
           last : d .flight .last ≡ s .flight .last
 
-        goes-or-stays : Goes t ⊎ Stayed (drive bus)
+        goes-or-stays : ActivatedAt p ws t c ⊎ Stayed (drive bus)
         unfolding dueAt sentAt
         goes-or-stays =
             ⊎-elim
             (λ none.
             ⊎-elim
-            (λ goes. inl (goes-by (drive-activate bus none goes)))
+            (λ goes. inl (activates none goes))
             (λ stays. inr (subst Stayed (sym (drive-nothing bus none stays)) (record { queues = refl; clear = still .clear; banks = refl; last = refl })))
             (either (canActivate bus)))
             (λ due.
@@ -294,7 +289,6 @@ module _ (p : Policy) (given : policyInRange p ≡ true) where
             let flight : u .flight ≡ afterAnswer (s .cycle) (drive bus .flight) = m .next .flight ∙ ap (λ (a : Answer). a .state .flight) (list.answered p given ws t under) in
             record {
               waiting = λ none. still .waiting (omega (arith, grown .longer, none));
-              same = grown .head (still .waiting) ∙ still .same;
               clear = ap (λ (f : Flight). dueAt (f .columns) latest) flight ∙ stayed .clear;
               rested =
                   record {
@@ -303,34 +297,38 @@ module _ (p : Policy) (given : policyInRange p ≡ true) where
                   };
             }
 
-        -- at the latest tick nothing holds it back
-        at-latest : i ≡ dead - 1 → Goes t
-        unfolding canActivate offsetAllows gapsMet gapsMetBy
+        -- at the latest tick nothing holds the oldest back, so one goes
+        at-latest : i ≡ dead - 1 → ActivatedAt p ws t c
+        unfolding canActivate goesAt mayGo offsetAllows gapsMet gapsMetBy
         at-latest e =
             let cycle : s .cycle ≡ latest = list.at p given ws t under .number ∙ ap (λ (x : ℕ). first + x) e in
             let none : eqb (dueColumn bus) 0 ≡ true = eq-eqb (dueColumn bus) 0 (ap (dueAt (s .flight .columns)) cycle ∙ still .clear) in
-            let word = going-sound (p .classes) bus sound some-waits in
-            let kind = sound-kind (p .classes) (going bus) word in
-            let bank = sound-bank (p .classes) (going bus) word in
-            let of-bank = getD (s .flight .banks) (bankOf (going bus)) 0 in
+            let waiting = lengthOf (s .queues) (turns .owner) in
+            let some-waits : 0 < waiting = subst (λ (x : ℕ). 0 < lengthOf (s .queues) x) (sym has) (lt-of-le-ne zero-le (λ z. still .waiting (sym z))) in
+            let head = waitingAt (s .queues) (turns .owner) 0 in
+            let word = waiting-sound (p .classes) bus sound 0 some-waits in
+            let kind = sound-kind (p .classes) head word in
+            let bank = sound-bank (p .classes) head word in
+            let of-bank = getD (s .flight .banks) (bankOf head) 0 in
             let met : (last gap : ℕ) → gap ≤ dead → gapMet last dead latest ≡ true → gapMet last gap (s .cycle) ≡ true =
             λ last gap short rests. gap-shift last dead gap latest (s .cycle) (omega (arith, short, cycle)) rests
             in
-            let number : 2 * activateKind (s .flight .last) + kindOf (going bus) < 4 = omega (arith, kind, kind-small (s .flight .last)) in
+            let number : 2 * activateKind (s .flight .last) + kindOf head < 4 = omega (arith, kind, kind-small (s .flight .last)) in
             let gaps =
             and-both
-            (met (s .flight .last) (getD (p .timing .gaps) (2 * activateKind (s .flight .last) + kindOf (going bus)) 0) (timed .gaps-bounds (2 * activateKind (s .flight .last) + kindOf (going bus)) number .1) (still .rested .of-all))
-            (met of-bank (getD (p .timing .bank) (activateKind of-bank) 0) (timed .bank-bounds (activateKind of-bank) (kind-small of-bank) .1) (still .rested .of-bank (bankOf (going bus)) bank))
+            (met (s .flight .last) (getD (p .timing .gaps) (2 * activateKind (s .flight .last) + kindOf head) 0) (timed .gaps-bounds (2 * activateKind (s .flight .last) + kindOf head) number .1) (still .rested .of-all))
+            (met of-bank (getD (p .timing .bank) (activateKind of-bank) 0) (timed .bank-bounds (activateKind of-bank) (kind-small of-bank) .1) (still .rested .of-bank (bankOf head) bank))
             in
             let offset : s .cycle % turn ≡ dead - 1 = ap (λ (x : ℕ). x % turn) cycle ∙ mul-add-mod-self-right k turn (dead - 1) ∙ mod-eq-of-lt (omega (arith, timed .dead-below-turn)) in
             let allowed = or-right (turns .elided) (ltb (s .cycle % turn) (turn - dead)) (lt-ltb (s .cycle % turn) (turn - dead) (omega (arith, offset, twice, timed .dead-bounds .0))) in
-            goes-by (drive-activate bus none (and-both (and-both allowed (lt-ltb (goesAt bus) (lengthOf (s .queues) (turns .owner)) some-waits)) gaps))
+            let one-may = some-at (mayGo bus) waiting 0 some-waits (and-both (or-left (eqb 0 0) (ltb (passedOf (s .queues) (turns .owner)) 15) refl) gaps) in
+            activates none (and-both allowed (first-some (mayGo bus) waiting ∙ one-may))
 
-      gone : (i : ℕ) → i < dead → Goes (first + i) → ActivatedIn p ws k (headAt p ws k c)
-      gone i soon goes = record { tick = first + i; not-before = omega arith; not-after = omega (arith, soon, twice); command = goes }
+      gone : (i : ℕ) → i < dead → ActivatedAt p ws (first + i) c → ActivatedIn p ws k c
+      gone i soon goes = record { tick = first + i; not-before = omega arith; not-after = omega (arith, soon, twice); activates = goes }
 
-      -- so it goes at one of these ticks
-      goes-within : (d i : ℕ) → i + d ≡ dead - 1 → Still (first + i) → ActivatedIn p ws k (headAt p ws k c)
+      -- so one goes at one of these ticks
+      goes-within : (d i : ℕ) → i + d ≡ dead - 1 → Still (first + i) → ActivatedIn p ws k c
       goes-within zero i far still =
           let soon : i < dead = omega (arith, far, timed .dead-bounds .0) in
           gone i soon (at-latest i soon still (omega (arith, far)))
@@ -339,7 +337,7 @@ module _ (p : Policy) (given : policyInRange p ≡ true) where
           let next : first + i + 1 ≡ first + (i + 1) = omega arith in
           ⊎-elim (gone i soon) (λ stayed. goes-within d (i + 1) (omega (arith, far)) (subst Still next (still-next i soon still stayed))) (goes-or-stays i soon still)
 
-      goes : ActivatedIn p ws k (headAt p ws k c)
+      goes : ActivatedIn p ws k c
       goes = let here : first ≡ first + 0 = omega arith in goes-within (dead - 1) 0 (omega arith) (subst Still here at-first)
 
     -- ---- the ticks, said of the list and its log
@@ -368,5 +366,5 @@ module _ (p : Policy) (given : policyInRange p ≡ true) where
         at-most-its-cap = at-most;
         exactly-its-cap = λ ws e waits. omega (arith, no-less ws e waits, at-most ws e (least p) (policy-laws p given .lowest .is-class));
         within-an-epoch = within;
-        head-goes = λ ws k c twice own waits ended. goes ws k c (list.owned p given ws k c own) twice waits ended;
+        some-goes = λ ws k c twice own waits ended. goes ws k c (list.owned p given ws k c own) twice waits ended;
       }

@@ -11,7 +11,7 @@ use lib.Dec.{ltb}
 use Rattle.policy.specs.Policy.{isClass, flows}
 use Rattle.policy.specs.Policy.{inRange as policyInRange}
 use Rattle.policy.specs.declared.Policy.{Policy}
-use Rattle.basics.proofs.Truth.{either, not-both, and-three, or-cases, on-true, on-false}
+use Rattle.basics.proofs.Truth.{either, not-both, and-left, or-cases, on-true, on-false}
 use Rattle.policy.proofs.Laws.{policy-laws}
 use Rattle.requests.specs.Sizes.{lastCycle}
 use Rattle.requests.specs.Word.{classOf, kindOf, soundWord}
@@ -172,7 +172,7 @@ module _ (p : Policy) (given : policyInRange p ≡ true) where
     head-far : turns .elided ≡ false → goes → dead ≤ untilTurn p (t + 1)
     unfolding canActivate offsetAllows
     head-far kept e =
-        let gate = and-three (offsetAllows (p .timing) (turns .elided) t) (ltb (goesAt bus) (lengthOf (s .queues) (turns .owner))) (gapsMet (p .timing) (s .flight) (going bus) t) e .0 in
+        let gate = and-left (offsetAllows (p .timing) (turns .elided) t) (ltb (goesAt bus) (lengthOf (s .queues) (turns .owner))) e in
         ⊎-elim
         (λ x. absurd (not-both x kept))
         (λ l. offset-far p two t dead (omega (arith, ltb-true (t % turn) (turn - dead) l)))

@@ -24,9 +24,9 @@ scheduler-laws p given =
           let q = ranged p s e .queues in
           record {
             at-end = waiting.enqueue-end (s .queues) c l (q .slots-long) (q .heads-long) (q .lengths-long);
-            from-front = waiting.dequeue-first (s .queues) c l (q .slots-long) (q .heads-long) (q .lengths-long);
+            from-middle = λ k waits. waiting.dequeue-closes (s .queues) c l (q .slots-long) (q .heads-long) (q .lengths-long) k waits (q .queue c l .short);
             enqueue-beside = λ d w apart. waiting.enqueue-beside (s .queues) c d apart w;
-            dequeue-beside = λ d apart. waiting.dequeue-beside (s .queues) c d apart;
+            dequeue-beside = λ d k apart. waiting.dequeue-beside (s .queues) c d apart k;
           };
       keeping = record { fresh-in-range = fresh-in-range p given; offer-in-range = offer-in-range p; tick-in-range = tick-in-range p };
       ascending = ascends p given;

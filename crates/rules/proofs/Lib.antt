@@ -50,3 +50,5 @@ pub mod ListTurns
 pub mod TurnsLeft
 -- all of them, as `specs/Guarantees.antt` states what a minimum and a cap guarantee
 pub mod Guarantees
+-- of requests that pass older ones, as `specs/Overtaking.antt` states it
+pub mod Overtaking

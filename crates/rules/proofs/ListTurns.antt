@@ -26,7 +26,7 @@ use Rattle.state.specs.Fresh.{stateAtStart, freshState}
 use Rattle.state.specs.declared.State.{State}
 use Rattle.state.specs.declared.Turns.{Turns}
 use Rattle.rules.specs.Traversal.{firstClass, Reached, endsAt, leftTried, takesHome}
-use Rattle.rules.specs.Step.{turnStarts, turnNumber, leftAtStart, turnWord, TurnStart, ownedBy, startTurn, turnsAt, Bus, drive}
+use Rattle.rules.specs.Step.{turnStarts, turnNumber, leftAtStart, turnWord, TurnStart, ownedBy, startTurn, turnsAt, Bus, goesAt, drive}
 use Rattle.rules.specs.Call.{busAt, afterTick}
 use Rattle.rules.specs.Calls.{Answer, ticked, answerTo, stateAfter}
 use Rattle.rules.specs.Guarantees.{ticksIn, atTick, firstTick, Started, Waits, owns}
@@ -52,7 +52,7 @@ driven-beside b c apart =
     let other : c ≢ b .owner = λ e. apart (sym e) in
     outcome b (λ d. Grown (b .queues) (d .queues) c)
     (λ due. grown-none (b .queues) c)
-    (λ due goes. record { longer = omega (arith, dequeue-else (b .queues) (b .owner) c other); head = λ some. dequeue-apart (b .queues) (b .owner) c 0 other })
+    (λ due goes. record { longer = omega (arith, dequeue-else (b .queues) (b .owner) (goesAt b) c other); head = λ some. dequeue-apart (b .queues) (b .owner) (goesAt b) c 0 other })
     (λ due stays. grown-none (b .queues) c)
 
 module _ (p : Policy) (given : policyInRange p ≡ true) where

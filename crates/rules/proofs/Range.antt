@@ -18,17 +18,18 @@ use Rattle.policy.specs.Policy.{inRange as policyInRange}
 use Rattle.timing.specs.declared.Timing.{Timing}
 use Rattle.policy.specs.declared.Policy.{Policy}
 use Rattle.basics.proofs.Truth.{not-both, and-left, and-right, and-three, and-both, or-left, or-right, or-cases}
-use Rattle.basics.proofs.Below.{lt-or-ge, every-at, every-all}
+use Rattle.basics.specs.Below.{first}
+use Rattle.basics.proofs.Below.{lt-or-ge, every-at, every-all, First, first-found, first-some}
 use Rattle.policy.proofs.Laws.{policy-laws}
 use Rattle.requests.specs.Word.{classOf, kindOf, bankOf, requestOf, isOffer, classFits, bankAndKindFit, soundWord}
-use Rattle.queues.specs.Waiting.{headOf, lengthOf, place, waitingAt, rightWord, ringInRange, queueInRange}
+use Rattle.queues.specs.Waiting.{headOf, lengthOf, passedOf, place, waitingAt, rightWord, ringInRange, queueInRange}
 use Rattle.flight.specs.Flight.{dueAt, activateInRange, pendingInRange, flightInRange}
-use Rattle.rules.specs.Wire.{offsetAllows, gapsMet}
+use Rattle.rules.specs.Wire.{offsetAllows}
 use Rattle.state.specs.Range.{turnsInRange, countsInRange, shaped, stateInRange, inRange}
 use Rattle.rules.specs.History.{Each, Activates}
 use Rattle.rules.specs.Ready.{Ready}
 use Rattle.requests.specs.Sizes.{lastCycle}
-use Rattle.rules.specs.Step.{Bus, dueColumn, goesAt, going, canActivate}
+use Rattle.rules.specs.Step.{Bus, dueColumn, mayGo, goesAt, going, canActivate}
 use Rattle.rules.specs.Call.{busAt}
 use Rattle.queues.specs.declared.Queues.{Queues}
 use Rattle.state.specs.declared.Turns.{Turns}
@@ -75,11 +76,13 @@ pub record QueueRange (n : ℕ) (q : Queues) (c : ℕ) : Type 0 where
   pub short : lengthOf q c ≤ 8
   pub in-ring : headOf q c < 8
   pub right : (k : ℕ) → k < lengthOf q c → rightWord n c (waitingAt q c k) ≡ true
+  pub few-passed : passedOf q c ≤ 15
 
 pub record QueuesRange (n : ℕ) (q : Queues) : Type 0 where
   pub slots-long : length (q .slots) ≡ 128
   pub heads-long : length (q .heads) ≡ 16
   pub lengths-long : length (q .lengths) ≡ 16
+  pub passed-long : length (q .passed) ≡ 16
   pub queue : (c : ℕ) → c < 16 → QueueRange n q c
 
 -- sixteen numbers, each within its bound
@@ -121,7 +124,8 @@ module _ (n : ℕ) (q : Queues) (c : ℕ) where
   queue-range : queueInRange n q c ≡ true → QueueRange n q c
   unfolding queueInRange ringInRange waitingAt
   queue-range e =
-      let words = both e in
+      let counted = both e in
+      let words = both (counted .0) in
       let ring = both (words .0) in
       let short = leb-true (lengthOf q c) 8 (ring .0) in
       record {
@@ -131,18 +135,21 @@ module _ (n : ℕ) (q : Queues) (c : ℕ) where
             λ k l.
             ⊎-elim (λ t. absurd (not-both t (lt-leb (lengthOf q c) k l))) (λ t. t)
             (or-cases (leb (lengthOf q c) k) (rightWord n c (getD (q .slots) (place c (headOf q c) k) 0)) (every-at right-or-past 8 (words .1) k (lt-of-lt-of-le l short)));
+        few-passed = leb-true (passedOf q c) 15 (counted .1);
       }
 
   queue-back : QueueRange n q c → queueInRange n q c ≡ true
   unfolding queueInRange ringInRange waitingAt
   queue-back r =
-      and-both (and-both (le-leb (lengthOf q c) 8 (r .short)) (lt-ltb (headOf q c) 8 (r .in-ring)))
+      and-both
+      (and-both (and-both (le-leb (lengthOf q c) 8 (r .short)) (lt-ltb (headOf q c) 8 (r .in-ring)))
       (every-all right-or-past 8
       (λ k l.
       ⊎-elim
       (λ h. or-right (leb (lengthOf q c) k) (rightWord n c (getD (q .slots) (place c (headOf q c) k) 0)) (r .right k h))
       (λ h. or-left (leb (lengthOf q c) k) (rightWord n c (getD (q .slots) (place c (headOf q c) k) 0)) (le-leb (lengthOf q c) k h))
-      (lt-or-ge k (lengthOf q c))))
+      (lt-or-ge k (lengthOf q c)))))
+      (le-leb (passedOf q c) 15 (r .few-passed))
 
 -- ---- a class's pointer and turns left, both ways
 
@@ -204,7 +211,8 @@ module _ (p : Policy) (s : State) where
       let columns = both (responses .0) in
       let pointers = both (columns .0) in
       let left = both (pointers .0) in
-      let lengths = both (left .0) in
+      let passed = both (left .0) in
+      let lengths = both (passed .0) in
       let slots-heads = both (lengths .0) in
       let responding = both (flight .1) in
       let commanding = both (responding .0) in
@@ -219,6 +227,7 @@ module _ (p : Policy) (s : State) where
               slots-long = eqb-true (length (s .queues .slots)) 128 (slots-heads .0);
               heads-long = eqb-true (length (s .queues .heads)) 16 (slots-heads .1);
               lengths-long = eqb-true (length (s .queues .lengths)) 16 (lengths .1);
+              passed-long = eqb-true (length (s .queues .passed)) 16 (passed .1);
               queue = λ c l. queue-range (p .classes) (s .queues) c (every-at (queueInRange (p .classes) (s .queues)) 16 (queues .1) c l);
             };
         turns =
@@ -255,7 +264,8 @@ module _ (p : Policy) (s : State) where
       let f = r .flight in
       let heads = and-both (eq-eqb (length (s .queues .slots)) 128 (q .slots-long)) (eq-eqb (length (s .queues .heads)) 16 (q .heads-long)) in
       let lengths = and-both heads (eq-eqb (length (s .queues .lengths)) 16 (q .lengths-long)) in
-      let left = and-both lengths (eq-eqb (length (s .turns .left)) 16 (t .left-within .sixteen)) in
+      let passed = and-both lengths (eq-eqb (length (s .queues .passed)) 16 (q .passed-long)) in
+      let left = and-both passed (eq-eqb (length (s .turns .left)) 16 (t .left-within .sixteen)) in
       let pointers = and-both left (eq-eqb (length (s .turns .pointers)) 16 (t .pointers-fit .sixteen)) in
       let columns = and-both pointers (eq-eqb (length (s .flight .columns)) 32 (f .columns-long)) in
       let responses = and-both columns (eq-eqb (length (s .flight .responses)) 32 (f .responses-long)) in
@@ -293,16 +303,36 @@ module _ (n : ℕ) (b : Bus) (r : BusRange n b) where
   pub goes-waits : canActivate b ≡ true → goesAt b < lengthOf (b .queues) (b .owner)
   unfolding canActivate
   goes-waits e =
-      ltb-true (goesAt b) (lengthOf (b .queues) (b .owner))
-      (and-three (offsetAllows (b .timing) (b .elided) (b .cycle)) (ltb (goesAt b) (lengthOf (b .queues) (b .owner))) (gapsMet (b .timing) (b .flight) (going b) (b .cycle)) e .1)
+      ltb-true (goesAt b) (lengthOf (b .queues) (b .owner)) (and-right (offsetAllows (b .timing) (b .elided) (b .cycle)) (ltb (goesAt b) (lengthOf (b .queues) (b .owner))) e)
 
-  -- it is one of the owner's, and sound
+  -- it may go, and none older may
+  pub goes-first : canActivate b ≡ true → First (mayGo b) (lengthOf (b .queues) (b .owner)) (goesAt b)
+  unfolding goesAt
+  goes-first e =
+      let n = lengthOf (b .queues) (b .owner) in
+      first-found (mayGo b) n (sym (first-some (mayGo b) n) ∙ lt-ltb (first n (mayGo b)) n (goes-waits e))
+
+  -- only where fewer than 15 have passed the oldest does another go
+  pub goes-past : canActivate b ≡ true → ((goesAt b ≡ 0) → ⊥) → passedOf (b .queues) (b .owner) < 15
+  unfolding mayGo
+  goes-past e other =
+      let k = goesAt b in
+      let few = ltb (passedOf (b .queues) (b .owner)) 15 in
+      ltb-true (passedOf (b .queues) (b .owner)) 15
+      (⊎-elim (λ none. absurd (other (eqb-true k 0 none))) (λ t. t) (or-cases (eqb k 0) few (and-left (eqb k 0 || few) _ (goes-first e .passes))))
+
+  -- each waiting request of the owner's is sound
+  pub waiting-sound : (k : ℕ) → k < lengthOf (b .queues) (b .owner) → soundWord n (waitingAt (b .queues) (b .owner) k) ≡ true
+  waiting-sound k some = right-sound n (b .owner) (waitingAt (b .queues) (b .owner) k) (r .queues .queue (b .owner) (r .owner-small) .right k some)
+
+  -- so is the one that goes, and it is one of the owner's
   pub going-right : goesAt b < lengthOf (b .queues) (b .owner) → rightWord n (b .owner) (going b) ≡ true
   unfolding going
   going-right some = r .queues .queue (b .owner) (r .owner-small) .right (goesAt b) some
 
   pub going-sound : goesAt b < lengthOf (b .queues) (b .owner) → soundWord n (going b) ≡ true
-  going-sound some = right-sound n (b .owner) (going b) (going-right some)
+  unfolding going
+  going-sound some = waiting-sound (goesAt b) some
 
   -- a due column's word is an offer
   pub due-offer : ((dueColumn b ≡ 0) → ⊥) → isOffer (dueColumn b) ≡ true
@@ -320,6 +350,11 @@ module _ (n : ℕ) (b : Bus) (r : BusRange n b) where
         ticks-left = left;
         class = r .owner-small;
         in-ring = r .queues .queue (b .owner) (r .owner-small) .in-ring;
-        sound = λ some. let sound = going-sound some in record { offer = sound-offer n (going b) sound; bank = sound-bank n (going b) sound; kind = sound-kind n (going b) sound };
+        short = r .queues .queue (b .owner) (r .owner-small) .short;
+        sound =
+            λ k some.
+            let w = waitingAt (b .queues) (b .owner) k in
+            let sound = waiting-sound k some in
+            record { offer = sound-offer n w sound; bank = sound-bank n w sound; kind = sound-kind n w sound };
         due-offer = due-offer;
       }

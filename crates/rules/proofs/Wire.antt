@@ -5,33 +5,36 @@
 use mathlib.Core.Path.{_≡_, refl}
 use mathlib.Core.Logic.{⊎-elim}
 use mathlib.Core.Bool.{true, _&&_, _||_}
-use Prim.Native.Nat.{ℕ, _+_, _≤_, _<_}
+use Prim.Native.Nat.{ℕ, _+_, _≤_, _<_, zero-le}
 use native.Mathlib.Omega.{arith}
 use borrow.Author.Tests.{leb-true, le-leb}
 use lib.Dec.{leb, eqb}
-use Rattle.basics.proofs.Truth.{and-left, and-right, and-both, or-left, or-right, or-cases}
+use Rattle.basics.proofs.Truth.{either, not-both, and-left, and-right, and-both, or-left, or-right, or-cases}
 use Rattle.flight.specs.Flight.{activateAt, activateNext, activateKind, activateInRange}
-use Rattle.rules.specs.Wire.{gapMet}
+use Rattle.rules.specs.Wire.{opensAt, gapMet}
 
 -- one cycle for another, and one gap for another
 pub gap-shift : (last gap other t u : ℕ) → t + other ≤ u + gap → gapMet last gap t ≡ true → gapMet last other u ≡ true
-unfolding gapMet
+unfolding gapMet opensAt
 gap-shift last gap other t u l e =
     ⊎-elim
-    (λ z. or-left (eqb last 0) (leb (activateNext last + other) (u + 1)) z)
-    (λ h. or-right (eqb last 0) (leb (activateNext last + other) (u + 1)) (le-leb (activateNext last + other) (u + 1) (omega (arith, l, leb-true (activateNext last + gap) (t + 1) h))))
-    (or-cases (eqb last 0) (leb (activateNext last + gap) (t + 1)) e)
+    (λ none. rw none (le-leb 0 (u + 1) zero-le))
+    (λ some. rw some (le-leb (activateNext last + other) (u + 1) (omega (arith, l, leb-true (activateNext last + gap) (t + 1) (rw some at e)))))
+    (either (eqb last 0))
 
 -- from an activate at t
 pub gap-new : (kind gap t u : ℕ) → kind < 2 → t + gap ≤ u → gapMet (activateAt t kind) gap u ≡ true
-unfolding gapMet activateAt activateNext
+unfolding gapMet opensAt activateAt activateNext
 gap-new kind gap t u k l =
-    or-right (eqb (activateAt t kind) 0) (leb (activateNext (activateAt t kind) + gap) (u + 1)) (le-leb (activateNext (activateAt t kind) + gap) (u + 1) (omega (arith, k, l)))
+    ⊎-elim
+    (λ none. rw none (le-leb 0 (u + 1) zero-le))
+    (λ some. rw some (le-leb (activateNext (activateAt t kind) + gap) (u + 1) (omega (arith, k, l))))
+    (either (eqb (activateAt t kind) 0))
 
 -- where there was none
 pub gap-none : (gap t : ℕ) → gapMet 0 gap t ≡ true
-unfolding gapMet
-gap-none gap t = refl
+unfolding gapMet opensAt
+gap-none gap t = le-leb 0 (t + 1) zero-le
 
 -- a kind is 0 or 1
 pub kind-small : (last : ℕ) → activateKind last < 2
@@ -52,25 +55,43 @@ stored-new t kind = or-right (eqb (activateAt t kind) 0) (leb 1 (activateNext (a
 abbrev pub Before : ℕ → ℕ → Type 0
 Before t last = Stored last × (gapMet last 1 t ≡ true)
 
+-- a gap of 1 is met: there was none, or it was before the cycle
+early : (t last : ℕ) → gapMet last 1 t ≡ true → (eqb last 0 || leb (activateNext last) t) ≡ true
+unfolding gapMet opensAt
+early t last e =
+    ⊎-elim
+    (λ none. or-left (eqb last 0) (leb (activateNext last) t) none)
+    (λ some. or-right (eqb last 0) (leb (activateNext last) t) (le-leb (activateNext last) t (omega (arith, leb-true (activateNext last + 1) (t + 1) (rw some at e)))))
+    (either (eqb last 0))
+
+early-back : (t last : ℕ) → (eqb last 0 || leb (activateNext last) t) ≡ true → gapMet last 1 t ≡ true
+unfolding gapMet opensAt
+early-back t last e =
+    ⊎-elim
+    (λ none. rw none (le-leb 0 (t + 1) zero-le))
+    (λ some.
+    let late = ⊎-elim (λ none. absurd (not-both none some)) (λ h. h) (or-cases (eqb last 0) (leb (activateNext last) t) e) in
+    rw some (le-leb (activateNext last + 1) (t + 1) (omega (arith, leb-true (activateNext last) t late))))
+    (either (eqb last 0))
+
 pub before : (t last : ℕ) → activateInRange t last ≡ true → Before t last
-unfolding activateInRange gapMet
+unfolding activateInRange
 before t last e =
     ⊎-elim
-    (λ z. (or-left (eqb last 0) (leb 1 (activateNext last)) z, or-left (eqb last 0) (leb (activateNext last + 1) (t + 1)) z))
-    (λ h.
-    let early = leb-true (activateNext last) t (and-right (leb 1 (activateNext last)) (leb (activateNext last) t) h) in (
+    (λ z. (or-left (eqb last 0) (leb 1 (activateNext last)) z, early-back t last (or-left (eqb last 0) (leb (activateNext last) t) z)))
+    (λ h. (
       or-right (eqb last 0) (leb 1 (activateNext last)) (and-left (leb 1 (activateNext last)) (leb (activateNext last) t) h),
-      or-right (eqb last 0) (leb (activateNext last + 1) (t + 1)) (le-leb (activateNext last + 1) (t + 1) (omega (arith, early))),
+      early-back t last (or-right (eqb last 0) (leb (activateNext last) t) (and-right (leb 1 (activateNext last)) (leb (activateNext last) t) h)),
     ))
     (or-cases (eqb last 0) (leb 1 (activateNext last) && leb (activateNext last) t) e)
 
 pub before-back : (t last : ℕ) → Before t last → activateInRange t last ≡ true
-unfolding activateInRange gapMet
+unfolding activateInRange
 before-back t last b =
     let none : eqb last 0 ≡ true → activateInRange t last ≡ true = or-left (eqb last 0) (leb 1 (activateNext last) && leb (activateNext last) t) in
     ⊎-elim none
     (λ stored.
     ⊎-elim none
-    (λ h. or-right (eqb last 0) (leb 1 (activateNext last) && leb (activateNext last) t) (and-both stored (le-leb (activateNext last) t (omega (arith, leb-true (activateNext last + 1) (t + 1) h)))))
-    (or-cases (eqb last 0) (leb (activateNext last + 1) (t + 1)) (b .1)))
+    (λ late. or-right (eqb last 0) (leb 1 (activateNext last) && leb (activateNext last) t) (and-both stored late))
+    (or-cases (eqb last 0) (leb (activateNext last) t) (early t last (b .1))))
     (or-cases (eqb last 0) (leb 1 (activateNext last)) (b .0))

@@ -69,12 +69,18 @@ owns p ws c k = ltb (firstTick p k) (ticksIn p ws) && eqb (answerTo p (atTick p 
 unfoldable pub ownedIn : Policy → List ℕ → ℕ → ℕ → ℕ
 ownedIn p ws e c = count (p .epoch) (λ j. owns p ws c (e * p .epoch + j))
 
--- request w is activated in turn number k: one of its ticks has the request's word as its command in the log
-pub record ActivatedIn (p : Policy) (ws : List ℕ) (k w : ℕ) : Type 0 where
+-- tick number t activates "some request of the class" c: its command in the log is the word of one that waits there
+pub record ActivatedAt (p : Policy) (ws : List ℕ) (t c : ℕ) : Type 0 where
+  pub place : ℕ
+  pub waits : place < lengthOf (atTick p ws t .queues) c
+  pub command : answerTo p (atTick p ws t) 0 .command ≡ waitingAt (atTick p ws t .queues) c place
+
+-- a tick of turn number k does
+pub record ActivatedIn (p : Policy) (ws : List ℕ) (k c : ℕ) : Type 0 where
   pub tick : ℕ
   pub not-before : firstTick p k ≤ tick
   pub not-after : tick < firstTick p (k + 1)
-  pub command : answerTo p (atTick p ws tick) 0 .command ≡ w
+  pub activates : ActivatedAt p ws tick c
 
 -- ---- what is promised
 
@@ -107,9 +113,9 @@ pub record Guarantees (p : Policy) : Type 0 where
   -- a turn of its class alone, so the first half always holds, with the same head.
   pub within-an-epoch : (ws : List ℕ) (k c : ℕ) → isClass p c ≡ true → 1 ≤ minimum p c → Waits p ws k c → Started p ws (k + (p .epoch - 1))
       → OwnTurn p ws k (p .epoch) c
-  -- "With a turn length of at least twice the dead time, the head at that start is activated in that turn, if it is ticked to its end."
-  pub head-goes : (ws : List ℕ) (k c : ℕ) → 2 * p .timing .dead ≤ p .timing .turn → owns p ws c k ≡ true → Waits p ws k c → Ended p ws k
-      → ActivatedIn p ws k (headAt p ws k c)
+  -- "With a turn length of at least twice the dead time", W-203's "some request of the class" "is activated in that turn, if it is ticked to its end."
+  pub some-goes : (ws : List ℕ) (k c : ℕ) → 2 * p .timing .dead ≤ p .timing .turn → owns p ws c k ≡ true → Waits p ws k c → Ended p ws k
+      → ActivatedIn p ws k c
 
 -- What the plan of home turns comes to for the turns left. A class can be tried only in turns whose first class may flow to it, and these are, in an epoch, no more than its cap: so, from fresh, turns left turn no class away.
 pub record CapsSuffice (p : Policy) : Type 0 where

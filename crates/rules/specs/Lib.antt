@@ -32,3 +32,5 @@ pub mod RunLaws
 pub mod RoundRobin
 -- W-202: what a minimum guarantees; W-209: when the least class owns its whole cap
 pub mod Guarantees
+-- W-203: what it comes to that a request may pass older ones of its class
+pub mod Overtaking

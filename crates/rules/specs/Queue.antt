@@ -1,10 +1,10 @@
--- The waiting requests: a queue for each class, of at most as many as its ring has places, oldest first. `Stored` (crate `state`) has how it is stored.
+-- The waiting requests: a queue for each class, of at most as many as its ring has places, oldest first. `Waiting` (crate `queues`) has how it is stored.
 use mathlib.Core.Bool.{true, false, cond}
 use mathlib.Core.List.{List}
-use Prim.Native.Nat.{ℕ, _+_, _-_, _%_}
+use Prim.Native.Nat.{ℕ, zero, suc, _+_, _-_, _%_}
 use lib.Dec.{ltb, eqb}
 use lib.ListN.{getD, set}
-use Rattle.queues.specs.Waiting.{headOf, lengthOf, place}
+use Rattle.queues.specs.Waiting.{headOf, lengthOf, passedOf, place}
 use Rattle.requests.specs.Sizes.{ringPlaces}
 use Rattle.requests.specs.Word.{classFits, bankAndKindFit, wordOf}
 use Rattle.requests.specs.declared.Request.{Request}
@@ -17,11 +17,27 @@ enqueue q c w =
       slots = set (q .slots) (place c (headOf q c) (lengthOf q c)) w;
       heads = q .heads;
       lengths = set (q .lengths) c (lengthOf q c + 1);
+      passed = q .passed;
     }
 
--- the head "leaves the queue"
-unfoldable pub dequeue : Queues → ℕ → Queues
-dequeue q c = record { slots = q .slots; heads = set (q .heads) c ((headOf q c + 1) % ringPlaces); lengths = set (q .lengths) c (lengthOf q c - 1) }
+-- W-203: "The rest of the queue closes up in its order." The k requests older than the one that leaves move by one place each, the youngest of them first into the place that it leaves.
+unfoldable pub closedUp : List ℕ → ℕ → ℕ → ℕ → List ℕ
+closedUp slots c head zero = slots
+closedUp slots c head (suc k) = closedUp (set slots (place c head (suc k)) (getD slots (place c head k) 0)) c head k
+
+-- W-203: how many have passed the oldest, once the k-th from it has gone: one more "passed it", or there is a new oldest, which none has passed
+unfoldable pub passedAfter : ℕ → ℕ → ℕ
+passedAfter k passed = cond (eqb k 0) 0 (passed + 1)
+
+-- the k-th request from the oldest "leaves the queue"
+unfoldable pub dequeue : Queues → ℕ → ℕ → Queues
+dequeue q c k =
+    record {
+      slots = closedUp (q .slots) c (headOf q c) k;
+      heads = set (q .heads) c ((headOf q c + 1) % ringPlaces);
+      lengths = set (q .lengths) c (lengthOf q c - 1);
+      passed = set (q .passed) c (passedAfter k (passedOf q c));
+    }
 
 -- ---- offers: "offers 13, 9, 10, 11"
 

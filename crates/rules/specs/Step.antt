@@ -1,12 +1,14 @@
 -- "Tick number t does, in order:" a turn's start, the command wires, the response.
-use mathlib.Core.Bool.{Bool, true, false, cond, _&&_}
+use mathlib.Core.Bool.{Bool, true, false, cond, _&&_, _||_}
 use mathlib.Core.List.{List}
 use Prim.Native.Nat.{ℕ, _+_, _/_, _%_}
 use lib.Dec.{ltb, eqb}
 use Rattle.timing.specs.declared.Timing.{Timing}
 use Rattle.policy.specs.declared.Policy.{Policy}
+use Rattle.basics.specs.Below.{first}
+use Rattle.requests.specs.Sizes.{mostPassed}
 use Rattle.requests.specs.Word.{requestOf}
-use Rattle.queues.specs.Waiting.{lengthOf, waitingAt}
+use Rattle.queues.specs.Waiting.{lengthOf, passedOf, waitingAt}
 use Rattle.flight.specs.Flight.{dueAt, sentAt}
 use Rattle.rules.specs.Queue.{dequeue}
 use Rattle.rules.specs.Traversal.{firstClass, candidates, Reached, tryClass, leftTried, charged}
@@ -81,20 +83,24 @@ pub record Bus : Type 0 where
 abbrev pub dueColumn : Bus → ℕ
 dueColumn b = dueAt (b .flight .columns) (b .cycle)
 
--- "the head of the owner's queue": the place, counted from the oldest, of the waiting request that goes. `Queue.dequeue` takes out the one at this place.
+-- W-203: the owner's k-th request from the oldest may go if its "gaps are met", and, where it is another than the oldest, if fewer than 15 have passed that: "nothing passes it again"
+unfoldable pub mayGo : Bus → ℕ → Bool
+mayGo b k =
+    (eqb k 0 || ltb (passedOf (b .queues) (b .owner)) mostPassed)
+    && gapsMet (b .timing) (b .flight) (waitingAt (b .queues) (b .owner) k) (b .cycle)
+
+-- W-203: "The owner now activates its oldest request whose gaps are met": the place of the one that goes, counted from the oldest; the queue's length where none may go. `Queue.dequeue` takes out the one at this
+-- place.
 unfoldable pub goesAt : Bus → ℕ
-goesAt b = 0
+goesAt b = first (lengthOf (b .queues) (b .owner)) (mayGo b)
 
 -- its word
 unfoldable pub going : Bus → ℕ
 going b = waitingAt (b .queues) (b .owner) (goesAt b)
 
--- "if the offset in the turn allows it and all gaps are met": there is such a request, and it can go
+-- "if the offset in the turn allows it and all gaps are met": there is a request that may go
 unfoldable pub canActivate : Bus → Bool
-canActivate b =
-    offsetAllows (b .timing) (b .elided) (b .cycle)
-    && ltb (goesAt b) (lengthOf (b .queues) (b .owner))
-    && gapsMet (b .timing) (b .flight) (going b) (b .cycle)
+canActivate b = offsetAllows (b .timing) (b .elided) (b .cycle) && ltb (goesAt b) (lengthOf (b .queues) (b .owner))
 
 -- the three outcomes: a column command goes out, a request is activated "and leaves the queue", or nothing is sent
 abbrev pub columnSent : Bus → Driven
@@ -109,14 +115,14 @@ abbrev pub requestSent : Bus → Driven
 requestSent b =
     record {
       wires = Activate (requestOf (going b));
-      queues = dequeue (b .queues) (b .owner);
+      queues = dequeue (b .queues) (b .owner) (goesAt b);
       flight = activated (b .timing) (b .flight .columns) (b .flight .responses) (b .flight .banks) (going b) (b .cycle);
     }
 
 abbrev pub nothingSent : Bus → Driven
 nothingSent b = record { wires = Nothing; queues = b .queues; flight = b .flight }
 
--- "If a column command is due, it goes out. Otherwise the head of the owner's queue is activated and leaves the queue, if .."
+-- "If a column command is due, it goes out. Otherwise" a request of the owner's "is activated and leaves the queue, if .."
 unfoldable pub drive : Bus → Driven
 drive b =
     elim (eqb (dueColumn b) 0) [

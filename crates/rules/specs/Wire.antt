@@ -1,5 +1,5 @@
 -- What is on its way, the gaps, and what an activate does.
-use mathlib.Core.Bool.{Bool, _&&_, _||_}
+use mathlib.Core.Bool.{Bool, cond, _&&_, _||_}
 use mathlib.Core.List.{List}
 use Prim.Native.Nat.{ℕ, _+_, _-_, _*_, _%_}
 use lib.Dec.{leb, ltb, eqb}
@@ -12,14 +12,22 @@ use Rattle.flight.specs.declared.Flight.{Flight}
 
 -- ---- gaps
 
--- "A gap of g is met from g cycles after that activate on, and where there was none."
+-- "A gap of g is met from g cycles after that activate on, and where there was none": the first tick at which it is, the ticks counted from 1; 0 where there was none
+unfoldable pub opensAt : ℕ → ℕ → ℕ
+opensAt last gap = cond (eqb last 0) 0 (activateNext last + gap)
+
 unfoldable pub gapMet : ℕ → ℕ → ℕ → Bool
-gapMet last gap t = eqb last 0 || leb (activateNext last + gap) (t + 1)
+gapMet last gap t = leb (opensAt last gap) (t + 1)
 
 -- "Gaps run from the last activate of all (by the two kinds)", the earlier first, "and from the last activate of the same bank (by that one's kind)"
+abbrev pub kindGap : Timing → ℕ → ℕ → ℕ
+kindGap timing last kind = getD (timing .gaps) (2 * activateKind last + kind) 0
+
+abbrev pub bankGap : Timing → ℕ → ℕ
+bankGap timing ofBank = getD (timing .bank) (activateKind ofBank) 0
+
 unfoldable pub gapsMetBy : Timing → ℕ → ℕ → ℕ → ℕ → Bool
-gapsMetBy timing last ofBank kind t =
-    gapMet last (getD (timing .gaps) (2 * activateKind last + kind) 0) t && gapMet ofBank (getD (timing .bank) (activateKind ofBank) 0) t
+gapsMetBy timing last ofBank kind t = gapMet last (kindGap timing last kind) t && gapMet ofBank (bankGap timing ofBank) t
 
 unfoldable pub gapsMet : Timing → Flight → ℕ → ℕ → Bool
 gapsMet timing f w t = gapsMetBy timing (f .last) (getD (f .banks) (bankOf w) 0) (kindOf w) t

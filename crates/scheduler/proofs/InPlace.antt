@@ -1,10 +1,13 @@
 -- What is lent in place: the policy's arrays are what the traversal rests on, and a state is its arrays and its numbers.
 -- Assumes nothing.
-use mathlib.Core.Path.{sym, subst}
+use mathlib.Core.Path.{_≡_, sym, subst}
 use mathlib.Core.List.{List}
-use Prim.Native.Nat.{ℕ}
+use Prim.Native.Nat.{ℕ, _+_, _<_}
+use native.Mathlib.Nat.{not-suc-le-zero}
 use Rattle.policy.specs.declared.Policy.{Policy}
 use Rattle.rules.specs.Climb.{Climbs}
+use Rattle.rules.specs.Step.{Bus}
+use Rattle.wires.specs.InPlace.{Rests}
 use Rattle.scheduler.specs.InPlace.{Lent, stateOf}
 use Rattle.scheduler.specs.declared.ticking.Moment.{Moment}
 use Rattle.state.specs.declared.State.{State}
@@ -16,4 +19,8 @@ climbs-lent p bottom free rows covers caps lent =
 
 -- a state's arrays, with these numbers
 abbrev pub with-numbers : State → Moment → State
-with-numbers s m = stateOf m (s .queues .slots) (s .queues .heads) (s .queues .lengths) (s .turns .left) (s .turns .pointers) (s .flight .columns) (s .flight .responses) (s .flight .banks)
+with-numbers s m = stateOf m (s .queues .slots) (s .queues .heads) (s .queues .lengths) (s .queues .passed) (s .turns .left) (s .turns .pointers) (s .flight .columns) (s .flight .responses) (s .flight .banks)
+
+-- where nothing is known of when a request may go, nothing is said
+pub nothing-known : (b : Bus) (rest : ℕ) → rest ≡ 0 → Rests b rest
+nothing-known b rest e t early = absurd (not-suc-le-zero (subst (λ (n : ℕ). t + 1 < n) e early))

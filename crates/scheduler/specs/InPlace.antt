@@ -13,7 +13,9 @@ use Rattle.queues.specs.Waiting.{queuesOf}
 use Rattle.state.specs.Stored.{turnsOf}
 use Rattle.flight.specs.Flight.{flightOf}
 use Rattle.state.specs.Range.{inRange}
+use Rattle.rules.specs.Call.{busAt}
 use Rattle.rules.specs.Calls.{Answer}
+use Rattle.wires.specs.InPlace.{Rests}
 use Rattle.scheduler.specs.declared.turning.Owned.{Owned}
 use Rattle.scheduler.specs.declared.ticking.Moment.{Moment}
 use Rattle.scheduler.specs.declared.ticking.Called.{Called}
@@ -28,7 +30,7 @@ pub record Lent (p : Policy) (bottom free : ℕ) (rows covers caps : List ℕ) :
   pub covers-are : covers ≡ p .covers
   pub caps-are : caps ≡ p .caps
 
--- a state's numbers that stand in no array, with the offset in its turn and the policy's least class and turns before the home turns
+-- a state's numbers that stand in no array, with the offset in its turn and the policy's least class and turns before the home turns; nothing is known of when a request may go
 abbrev pub momentOf : Policy → State → Moment
 momentOf p s =
     record {
@@ -40,15 +42,21 @@ momentOf p s =
       owner = s .turns .owner;
       elided = s .turns .elided;
       last = s .flight .last;
+      rest = 0;
     }
 
 -- the offset in the turn is that of the cycle
 abbrev pub InStep : Policy → Moment → Type 0
 InStep p m = m .offset ≡ m .cycle % p .timing .turn
 
--- the numbers a cycle later, with the turn's owner and its elision and another last activate
-abbrev pub nextMoment : Timing → Moment → ℕ → Bool → ℕ → Moment
-nextMoment timing m owner elided last =
+-- the numbers with another tick before which none may go
+abbrev pub withRest : Moment → ℕ → Moment
+withRest m rest =
+    record { cycle = m .cycle; offset = m .offset; bottom = m .bottom; free = m .free; classes = m .classes; owner = m .owner; elided = m .elided; last = m .last; rest = rest }
+
+-- the numbers a cycle later, with the turn's owner and its elision, another last activate and another such tick
+abbrev pub nextMoment : Timing → Moment → ℕ → Bool → ℕ → ℕ → Moment
+nextMoment timing m owner elided last rest =
     record {
       cycle = m .cycle + 1;
       offset = (m .cycle + 1) % timing .turn;
@@ -58,16 +66,17 @@ nextMoment timing m owner elided last =
       owner = owner;
       elided = elided;
       last = last;
+      rest = rest;
     }
 
 -- ---- of the numbers and arrays that are worked on: the state
 
-abbrev pub stateOf : Moment → List ℕ → List ℕ → List ℕ → List ℕ → List ℕ → List ℕ → List ℕ → List ℕ → State
-stateOf m slots heads lengths left pointers columns responses banks =
+abbrev pub stateOf : Moment → List ℕ → List ℕ → List ℕ → List ℕ → List ℕ → List ℕ → List ℕ → List ℕ → List ℕ → State
+stateOf m slots heads lengths passed left pointers columns responses banks =
     record {
       cycle = m .cycle;
       classes = m .classes;
-      queues = queuesOf slots heads lengths;
+      queues = queuesOf slots heads lengths passed;
       turns = turnsOf (m .owner) (m .elided) left pointers;
       flight = flightOf columns responses banks (m .last);
     }
@@ -86,10 +95,15 @@ answeredWith m status = record { moment = m; status = status; command = 0; respo
 
 -- ---- what a call in place rests on, and what stays from one to the next
 
--- policy and state are in range, the offset is in step, and what is lent is the policy's
+-- before the tick that goes along none of the owner's requests may go, as the state stands
+abbrev pub Resting : Policy → State → Moment → Type 0
+Resting p s m = Rests (busAt p s (s .turns)) (m .rest)
+
+-- policy and state are in range, the offset is in step, none may go before the tick that goes along, and what is lent is the policy's
 pub record Working (p : Policy) (s : State) (m : Moment) (rows covers caps : List ℕ) : Type 0 where
   pub ranges : inRange p s ≡ true
   pub in-step : InStep p m
+  pub rests : Resting p s m
   pub lent : Lent p (m .bottom) (m .free) rows covers caps
 
 -- the numbers after a call: the offset is in step again, and the policy's numbers and the class count are what they were

@@ -10,7 +10,7 @@ ghost use Rattle.state.specs.Range.{inRange};
 ghost use Rattle.state.specs.declared.State.{State};
 ghost use Rattle.rules.specs.Calls.{answerTo, stateAfter, logOf, lineWritten};
 ghost use Rattle.rules.specs.Run.{run, logAfter};
-ghost use Rattle.scheduler.specs.InPlace.{stateOf, answeredWith, answerOf, Working, Continues};
+ghost use Rattle.scheduler.specs.InPlace.{withRest, stateOf, answeredWith, answerOf, Resting, Working, Continues};
 use flight::Banks;
 use flight::Pending;
 use policy::Policy;
@@ -51,6 +51,15 @@ fn answered(moment: Moment, status: u32) -> Called
     }
 }
 
+// The numbers after an offer: one of the owner's may go at once.
+fn unrested(m: Moment) -> Moment
+    ensures { λ r. ⌜ r ≡ withRest m 0 ⌝ }
+{
+    let mut after = m;
+    after.rest = 0;
+    after
+}
+
 // The call of a trace word, in place, on a state in range.
 fn call_at(
     p: Policy,
@@ -62,6 +71,7 @@ fn call_at(
     slots: &mut Slots,
     heads: &mut [usize; 16],
     lengths: &mut [usize; 16],
+    passed: &mut [usize; 16],
     left: &mut [u32; 16],
     pointers: &mut [usize; 16],
     columns: &mut Pending,
@@ -69,12 +79,13 @@ fn call_at(
     banks: &mut Banks,
 ) -> Called
     ghost { State }
-    requires { λ s. ⌜ stateOf m (now slots) (now heads) (now lengths) (now left) (now pointers) (now columns) (now responses) (now banks)
+    requires { λ s. ⌜ stateOf m (now slots) (now heads) (now lengths) (now passed) (now left) (now pointers) (now columns) (now responses) (now banks)
         ≡ s ⌝ }
     requires { λ s. ⌜ Working p s m (now rows) (now covers) (now caps) ⌝ }
     ensures answered { λ s r. ⌜ answerOf r (stateOf (r .moment) (now (slots .exit)) (now (heads .exit)) (now (lengths .exit))
-        (now (left .exit)) (now (pointers .exit)) (now (columns .exit)) (now (responses .exit)) (now (banks .exit))) ≡ answerTo p s word ⌝ }
+        (now (passed .exit)) (now (left .exit)) (now (pointers .exit)) (now (columns .exit)) (now (responses .exit)) (now (banks .exit))) ≡ answerTo p s word ⌝ }
     ensures next { λ s r. ⌜ Continues p m (r .moment) ⌝ }
+    ensures rests { λ s r. ⌜ Resting p (answerTo p s word .state) (r .moment) ⌝ }
 {
     let call = requests::call_of(word);
     match call {
@@ -91,6 +102,7 @@ fn call_at(
                 slots,
                 heads,
                 lengths,
+                passed,
                 left,
                 pointers,
                 columns,
@@ -100,7 +112,7 @@ fn call_at(
         }
         Call::Offer(r) => {
             let status = wires::offer(m.classes, slots, heads, lengths, r, word);
-            answered(m, status)
+            answered(unrested(m), status)
         }
         Call::Malformed => answered(m, 14),
     }
@@ -117,6 +129,7 @@ fn calls(
     slots: &mut Slots,
     heads: &mut [usize; 16],
     lengths: &mut [usize; 16],
+    passed: &mut [usize; 16],
     left: &mut [u32; 16],
     pointers: &mut [usize; 16],
     columns: &mut Pending,
@@ -126,10 +139,10 @@ fn calls(
     log: &mut [u32],
 ) -> Moment
     ghost { State }
-    requires { λ s. ⌜ stateOf start (now slots) (now heads) (now lengths) (now left) (now pointers) (now columns) (now responses) (now banks)
+    requires { λ s. ⌜ stateOf start (now slots) (now heads) (now lengths) (now passed) (now left) (now pointers) (now columns) (now responses) (now banks)
         ≡ s ⌝ }
     requires { λ s. ⌜ Working p s start (now rows) (now covers) (now caps) × (4 * length (now trace) ≤ length (now log)) ⌝ }
-    ensures state { λ s r. ⌜ stateOf r (now (slots .exit)) (now (heads .exit)) (now (lengths .exit)) (now (left .exit))
+    ensures state { λ s r. ⌜ stateOf r (now (slots .exit)) (now (heads .exit)) (now (lengths .exit)) (now (passed .exit)) (now (left .exit))
         (now (pointers .exit)) (now (columns .exit)) (now (responses .exit)) (now (banks .exit)) ≡ stateAfter p s (now (trace .entry)) ⌝ }
     ensures logged { λ s r. ⌜ now (log .exit)
         ≡ logOf p s (now (trace .entry)) ++ drop (4 * length (now (trace .entry))) (now (log .entry)) ⌝ }
@@ -142,6 +155,7 @@ fn calls(
     let mut owner = start.owner;
     let mut elided = start.elided;
     let mut last = start.last;
+    let mut rest = start.rest;
     let mut i = 0;
     while i < trace.len() {
         let m = Moment {
@@ -153,6 +167,7 @@ fn calls(
             owner,
             elided,
             last,
+            rest,
         };
         let called = call_at(
             p,
@@ -164,6 +179,7 @@ fn calls(
             slots,
             heads,
             lengths,
+            passed,
             left,
             pointers,
             columns,
@@ -184,6 +200,7 @@ fn calls(
         owner = after.owner;
         elided = after.elided;
         last = after.last;
+        rest = after.rest;
         i += 1;
     }
     Moment {
@@ -195,6 +212,7 @@ fn calls(
         owner,
         elided,
         last,
+        rest,
     }
 }
 
@@ -212,6 +230,7 @@ fn advance(s: State, p: Policy, trace: &[u32], log: &mut [u32]) -> State
     let mut slots = queues.slots;
     let mut heads = queues.heads;
     let mut lengths = queues.lengths;
+    let mut passed = queues.passed;
     let turns = s.turns;
     let mut left = turns.left;
     let mut pointers = turns.pointers;
@@ -229,6 +248,7 @@ fn advance(s: State, p: Policy, trace: &[u32], log: &mut [u32]) -> State
         &mut slots,
         &mut heads,
         &mut lengths,
+        &mut passed,
         &mut left,
         &mut pointers,
         &mut columns,
@@ -242,6 +262,7 @@ fn advance(s: State, p: Policy, trace: &[u32], log: &mut [u32]) -> State
         slots,
         heads,
         lengths,
+        passed,
         left,
         pointers,
         columns,

@@ -1,8 +1,9 @@
 // A tick in place, on the arrays of a state and of its policy. A single tick and a trace's ticks are made by it.
 
 ghost use mathlib.Core.Path.{_≡_};
-ghost use mathlib.Core.Bool.{true};
+ghost use mathlib.Core.Bool.{true, cond};
 ghost use Prim.Native.Nat.{_+_, _%_, _<_};
+ghost use lib.Dec.{eqb};
 ghost use Rattle.turns.specs.Turns.{freeTurns};
 ghost use Rattle.policy.specs.Policy.{least, inRange};
 ghost use Rattle.policy.specs.Laws.{TimingLaws};
@@ -10,7 +11,7 @@ ghost use Rattle.requests.specs.Sizes.{lastCycle};
 ghost use Rattle.state.specs.declared.State.{State};
 ghost use Rattle.rules.specs.Call.{afterTick};
 ghost use Rattle.rules.specs.Calls.{ticked};
-ghost use Rattle.scheduler.specs.InPlace.{momentOf, nextMoment, stateOf, answerOf, Working, Continues};
+ghost use Rattle.scheduler.specs.InPlace.{momentOf, nextMoment, stateOf, answerOf, Resting, Working, Continues};
 use super::turning;
 use flight::Banks;
 use flight::Flight;
@@ -23,8 +24,8 @@ use state::Turns;
 use timing::Timing;
 use wires::Instant;
 
-// The numbers of a state that stand in no array, and three that need not be worked out at each tick: the offset in the turn, the policy's least class, and how many
-// turns of an epoch come before its home turns.
+// The numbers of a state that stand in no array, and four that need not be worked out at each tick: the offset in the turn, the policy's least class, how many
+// turns of an epoch come before its home turns, and a tick, counted from 1, before which none of the owner's requests may go as things stand (0 where nothing is known of it).
 pub struct Moment {
     pub cycle: u32,
     pub offset: u32,
@@ -34,6 +35,7 @@ pub struct Moment {
     pub owner: usize,
     pub elided: bool,
     pub last: u32,
+    pub rest: u64,
 }
 
 // What a call in place left, beside the arrays, and its four numbers in the log.
@@ -74,6 +76,7 @@ pub(crate) fn moment_of(p: Policy, s: State) -> Moment
         owner: turns.owner,
         elided: turns.elided,
         last: flight.last,
+        rest: 0,
     }
 }
 
@@ -83,18 +86,20 @@ pub(crate) fn state_of(
     slots: Slots,
     heads: [usize; 16],
     lengths: [usize; 16],
+    passed: [usize; 16],
     left: [u32; 16],
     pointers: [usize; 16],
     columns: Pending,
     responses: Pending,
     banks: Banks,
 ) -> State
-    ensures { λ r. ⌜ r ≡ stateOf m slots heads lengths left pointers columns responses banks ⌝ }
+    ensures { λ r. ⌜ r ≡ stateOf m slots heads lengths passed left pointers columns responses banks ⌝ }
 {
     let queues = Queues {
         slots,
         heads,
         lengths,
+        passed,
     };
     let turns = Turns {
         owner: m.owner,
@@ -128,10 +133,17 @@ fn next_offset(timing: Timing, cycle: u32, offset: u32) -> u32
     }
 }
 
-// The numbers a cycle later, with the turn's owner and its elision and another last activate.
-fn next_moment(timing: Timing, m: Moment, owner: usize, elided: bool, last: u32) -> Moment
+// The numbers a cycle later, with the turn's owner and its elision, another last activate and another tick before which none may go.
+fn next_moment(
+    timing: Timing,
+    m: Moment,
+    owner: usize,
+    elided: bool,
+    last: u32,
+    rest: u64,
+) -> Moment
     requires { ⌜ TimingLaws timing × (m .offset ≡ m .cycle % timing .turn) × (m .cycle < lastCycle) ⌝ }
-    ensures { λ r. ⌜ r ≡ nextMoment timing m owner elided last ⌝ }
+    ensures { λ r. ⌜ r ≡ nextMoment timing m owner elided last rest ⌝ }
 {
     Moment {
         cycle: m.cycle + 1,
@@ -142,7 +154,15 @@ fn next_moment(timing: Timing, m: Moment, owner: usize, elided: bool, last: u32)
         owner,
         elided,
         last,
+        rest,
     }
+}
+
+// Where a turn starts, nothing is known of its owner's requests.
+fn rest_of(m: Moment) -> u64
+    ensures { λ r. ⌜ r ≡ cond (eqb (m .offset) 0) 0 (m .rest) ⌝ }
+{
+    if m.offset == 0 { 0 } else { m.rest }
 }
 
 // The three steps of a tick, on a state in range with a tick left.
@@ -152,9 +172,10 @@ pub(crate) fn tick_in_place(
     rows: &[u16; 16],
     covers: &[u16; 16],
     caps: &[u32; 16],
-    slots: &Slots,
+    slots: &mut Slots,
     heads: &mut [usize; 16],
     lengths: &mut [usize; 16],
+    passed: &mut [usize; 16],
     left: &mut [u32; 16],
     pointers: &mut [usize; 16],
     columns: &mut Pending,
@@ -162,12 +183,13 @@ pub(crate) fn tick_in_place(
     banks: &mut Banks,
 ) -> Called
     ghost { State }
-    requires { λ s. ⌜ stateOf m (now slots) (now heads) (now lengths) (now left) (now pointers) (now columns) (now responses) (now banks)
+    requires { λ s. ⌜ stateOf m (now slots) (now heads) (now lengths) (now passed) (now left) (now pointers) (now columns) (now responses) (now banks)
         ≡ s ⌝ }
     requires { λ s. ⌜ Working p s m (now rows) (now covers) (now caps) × (m .cycle < lastCycle) ⌝ }
-    ensures ticked { λ s r. ⌜ answerOf r (stateOf (r .moment) (now (slots .entry)) (now (heads .exit)) (now (lengths .exit))
-        (now (left .exit)) (now (pointers .exit)) (now (columns .exit)) (now (responses .exit)) (now (banks .exit))) ≡ ticked (afterTick p s) ⌝ }
+    ensures ticked { λ s r. ⌜ answerOf r (stateOf (r .moment) (now (slots .exit)) (now (heads .exit)) (now (lengths .exit))
+        (now (passed .exit)) (now (left .exit)) (now (pointers .exit)) (now (columns .exit)) (now (responses .exit)) (now (banks .exit))) ≡ ticked (afterTick p s) ⌝ }
     ensures next { λ s r. ⌜ Continues p m (r .moment) ⌝ }
+    ensures rests { λ s r. ⌜ Resting p (afterTick p s .state) (r .moment) ⌝ }
 {
     let timing = p.timing;
     let owned = turning::turns_at(p, m, rows, covers, caps, lengths, left, pointers);
@@ -177,10 +199,21 @@ pub(crate) fn tick_in_place(
         owner: owned.owner,
         elided: owned.elided,
         last: m.last,
+        rest: rest_of(m),
     };
-    let drove = wires::drive(timing, at, slots, heads, lengths, columns, responses, banks);
+    let drove = wires::drive(
+        timing,
+        at,
+        slots,
+        heads,
+        lengths,
+        passed,
+        columns,
+        responses,
+        banks,
+    );
     let response = flight::take_due(m.cycle, responses);
-    let moment = next_moment(timing, m, owned.owner, owned.elided, drove.last);
+    let moment = next_moment(timing, m, owned.owner, owned.elided, drove.last, drove.rest);
     Called {
         moment,
         status: 0,

@@ -15,7 +15,7 @@ unfoldable pub zeros : ℕ → List ℕ
 zeros n = replicate n 0
 
 unfoldable pub emptyQueues : Queues
-emptyQueues = record { slots = zeros 128; heads = zeros 16; lengths = zeros 16 }
+emptyQueues = record { slots = zeros 128; heads = zeros 16; lengths = zeros 16; passed = zeros 16 }
 
 unfoldable pub nothingInFlight : Flight
 nothingInFlight = record { columns = zeros pendingPlaces; responses = zeros pendingPlaces; banks = zeros bankCount; last = 0 }

@@ -21,6 +21,7 @@ shaped s =
     eqb (length (s .queues .slots)) 128
     && eqb (length (s .queues .heads)) 16
     && eqb (length (s .queues .lengths)) 16
+    && eqb (length (s .queues .passed)) 16
     && eqb (length (s .turns .left)) 16
     && eqb (length (s .turns .pointers)) 16
     && eqb (length (s .flight .columns)) pendingPlaces

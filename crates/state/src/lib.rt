@@ -102,6 +102,7 @@ fn state_in_range(s: State, p: Policy) -> bool
     let slots = queues.slots;
     let heads = queues.heads;
     let lengths = queues.lengths;
+    let passed = queues.passed;
     let turns = s.turns;
     let left = turns.left;
     let pointers = turns.pointers;
@@ -109,7 +110,7 @@ fn state_in_range(s: State, p: Policy) -> bool
     let covers = p.covers;
     let caps = p.caps;
     let timing = p.timing;
-    queues::queues_in_range(p.classes, &slots, &heads, &lengths)
+    queues::queues_in_range(p.classes, &slots, &heads, &lengths, &passed)
         & turns_in_range(&covers, &caps, &left, &pointers)
         & flight::flight_in_range(p.classes, timing, s.cycle, flight)
 }
@@ -128,6 +129,7 @@ fn empty_queues() -> Queues
         slots: [0u32; 128],
         heads: [0usize; 16],
         lengths: [0usize; 16],
+        passed: [0usize; 16],
     }
 }
 

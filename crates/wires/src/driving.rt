@@ -1,21 +1,30 @@
-// The parts of driving the command wires: the offset in the turn, the head of a queue, and an activate.
+// The parts of driving the command wires: the offset in the turn, the request that goes, and an activate.
 
 ghost use mathlib.Core.Path.{_≡_};
-ghost use Prim.Native.Nat.{_%_, _<_};
+ghost use mathlib.Core.Bool.{false, cond};
+ghost use Prim.Native.Nat.{ℕ, _+_, _%_, _<_, min, max};
+ghost use lib.Dec.{eqb};
 ghost use lib.ListN.{getD};
 ghost use Rattle.policy.specs.Laws.{TimingLaws};
-ghost use Rattle.requests.specs.Sizes.{lastCycle, bankCount};
+ghost use Rattle.basics.specs.Below.{first};
+ghost use Rattle.requests.specs.Sizes.{lastCycle, bankCount, mostPassed};
 ghost use Rattle.requests.specs.Word.{kindOf, bankOf};
 ghost use Rattle.queues.specs.Waiting.{place};
 ghost use Rattle.flight.specs.Flight.{flightOf};
 ghost use Rattle.rules.specs.Wire.{offsetAllows, activated};
+ghost use Rattle.wires.specs.InPlace.{opensBy, mayGoBy, Scannable};
 use flight::Banks;
 use flight::PENDING_PLACES;
 use flight::Pending;
+use queues::MOST_PASSED;
+use queues::RING_PLACES;
 use queues::Slots;
 use requests::BANK_COUNT;
 use requests::words;
 use timing::Timing;
+
+// Later than any tick.
+const NEVER: u64 = 18446744073709551615;
 
 // The owner may activate at offsets before the dead time, or at all offsets if it is elided.
 pub(crate) fn offset_allows(timing: Timing, elided: bool, cycle: u32, offset: u32) -> bool
@@ -47,11 +56,100 @@ pub(crate) fn activate(
     last
 }
 
-// The word at the head of a class's queue.
-pub(crate) fn head_of(slots: &Slots, heads: &[usize; 16], class: usize) -> u32
+// The word of the k-th request from a class's oldest.
+pub(crate) fn waiting_at(slots: &Slots, class: usize, head: usize, k: usize) -> u32
     requires { ⌜ class < 16 ⌝ }
-    ensures { λ r. ⌜ r ≡ getD (now (slots .entry)) (place class (getD (now (heads .entry)) class 0) 0) 0 ⌝ }
+    ensures { λ r. ⌜ r ≡ getD (now (slots .entry)) (place class head k) 0 ⌝ }
 {
-    let place = queues::place(class, heads[class], 0);
+    let place = queues::place(class, head, k);
     slots[place]
+}
+
+// Which request of a class goes.
+pub struct Found {
+    // Its place, from the oldest; the queue's length where none may go.
+    pub place: usize,
+    // Where none may go: before this tick, counted from 1, none may as things stand.
+    pub rest: u64,
+}
+
+// The earlier of two ticks; the later of two; and the one of a kind, where these are a read's and a write's.
+fn earlier(a: u64, b: u64) -> u64
+    ensures { λ r. ⌜ r ≡ min a b ⌝ }
+{
+    if a < b { a } else { b }
+}
+
+fn later(a: u64, b: u64) -> u64
+    ensures { λ r. ⌜ r ≡ max a b ⌝ }
+{
+    if a < b { b } else { a }
+}
+
+fn of_kind(kind: u32, read: u64, write: u64) -> u64
+    ensures { λ r. ⌜ r ≡ cond (eqb kind 0) read write ⌝ }
+{
+    if kind == 0 { read } else { write }
+}
+
+// The first tick, counted from 1, at which the gaps of a request are met, where those from the last activate of all are for a read and for a write at these.
+fn opens_of(timing: Timing, read: u64, write: u64, banks: &Banks, word: u32) -> u64
+    ensures { λ r. ⌜ (bankOf word < bankCount → r ≡ opensBy timing read write (now (banks .entry)) word) ⌝ }
+{
+    let bank = words::bank_of(word) as usize % BANK_COUNT;
+    let of_bank = decisions::bank_opens(timing, banks[bank]);
+    later(of_kind(words::kind_of(word), read, write), of_bank)
+}
+
+// Looks for the request of a class that goes: the first whose gaps are met, and none but the oldest where so many as may have passed it. The oldest is looked at first, so a
+// queue whose oldest goes costs no more than one look; and where the last activate of all holds both kinds back, none is looked at.
+pub(crate) fn goes_at(
+    timing: Timing,
+    cycle: u32,
+    last: u32,
+    slots: &Slots,
+    banks: &Banks,
+    class: usize,
+    head: usize,
+    length: usize,
+    passed: usize,
+) -> Found
+    requires { ⌜ class < 16 ⌝ }
+    ensures first { λ r. ⌜ (Scannable (now (slots .entry)) class head length
+        → r .place ≡ first length (mayGoBy timing cycle last (now (slots .entry)) (now (banks .entry)) class head passed)) ⌝ }
+    ensures rests { λ r. ⌜ (Scannable (now (slots .entry)) class head length → (t : ℕ) → t + 1 < r .rest → (k : ℕ) → k < length
+        → mayGoBy timing t last (now (slots .entry)) (now (banks .entry)) class head passed k ≡ false) ⌝ }
+    ensures passes { λ r. ⌜ (r .place < length → 0 < r .place → passed < mostPassed) ⌝ }
+{
+    let read = decisions::kind_opens(timing, last, 0);
+    let write = decisions::kind_opens(timing, last, 1);
+    let now = cycle as u64 + 1;
+    let first = earlier(read, write);
+    if now < first {
+        return Found {
+            place: length,
+            rest: first,
+        };
+    }
+    let mut rest = NEVER;
+    let mut k = 0;
+    while (k < length) & (k < RING_PLACES) {
+        let word = waiting_at(slots, class, head, k);
+        let opens = opens_of(timing, read, write, banks, word);
+        if opens <= now {
+            return Found { place: k, rest: 0 };
+        }
+        rest = earlier(rest, opens);
+        if MOST_PASSED <= passed {
+            return Found {
+                place: length,
+                rest,
+            };
+        }
+        k += 1;
+    }
+    Found {
+        place: length,
+        rest,
+    }
 }

@@ -10,7 +10,7 @@ use native.Mathlib.Nat.{not-suc-le-zero, le-of-lt}
 use native.Mathlib.Omega.{arith}
 use borrow.Author.Tests.{eqb-true, eqb-false, eq-eqb, ne-eqb, ltb-true, lt-ltb}
 use lib.Dec.{ltb, eqb}
-use lib.ListN.{length, getD}
+use lib.ListN.{length, getD, drop}
 use Rattle.basics.specs.Below.{every, some, first, count, sum, setOf, listOf}
 use Rattle.masks.specs.Mask.{member, includes, size, nth, belowMask}
 use Rattle.order.specs.Order.{isClassIn, flowsIn, strictlyIn, rowFits, rowsFit, antisymmetricAt, antisymmetric, transitiveAt, transitive, hasLeast, leastAt, leastIn, betweenIn, coversIn, coverSet}
@@ -25,20 +25,20 @@ use Rattle.basics.proofs.Truth.{either, not-both, not-true, not-false, and-left
 use Rattle.basics.proofs.Below.{count-same}
 use Rattle.policy.proofs.Laws.{policy-laws}
 use Rattle.requests.specs.Word.{classOf, kindOf, bankOf, tagOf, isOffer, requestOf, wordOf, classFits, bankAndKindFit, columnNumber, commandNumber}
-use Rattle.queues.specs.Waiting.{headOf, lengthOf, place, waitingAt}
+use Rattle.queues.specs.Waiting.{headOf, lengthOf, passedOf, place, waitingAt}
 use Rattle.flight.specs.Flight.{dueAt, activateAt, activateNext, activateKind, sentAt}
-use Rattle.rules.specs.Queue.{enqueue, dequeue, offerStatus, queuesAfter}
+use Rattle.rules.specs.Queue.{enqueue, closedUp, passedAfter, dequeue, offerStatus, queuesAfter}
 use Rattle.rules.specs.Traversal.{firstClass, candidates, moved, movedPointer, passedAt, named, takesBy, takes, endsAt, tryClass, charge, takesHome, leftTried, charged}
 use Rattle.rules.specs.Lookahead.{goesOn, reaches, aheadOf, nextLeft, elides}
 use Rattle.rules.specs.Wire.{gapMet, gapsMetBy, gapsMet, offsetAllows, activated}
-use Rattle.rules.specs.Step.{turnStarts, turnNumber, leftAtStart, ownedBy, startTurn, turnsAt, turnWord, goesAt, going, canActivate, drive, answered}
+use Rattle.rules.specs.Step.{turnStarts, turnNumber, leftAtStart, ownedBy, startTurn, turnsAt, turnWord, mayGo, goesAt, going, canActivate, drive, answered}
 use Rattle.state.specs.Fresh.{zeros, emptyQueues, nothingInFlight, stateAtStart, freshState}
 use Rattle.state.specs.Range.{inRange as stateRange}
 use Rattle.rules.specs.Call.{offerOn, silent, afterTick, tickOn, tick}
 use Rattle.requests.specs.Trace.{callOf}
 use Rattle.rules.specs.Calls.{Answer, ticked, offered, answer, answerTo, stateAfter, logOf}
 use Rattle.rules.specs.Guarantees.{ticksIn, stateAtTick, atTick, firstTick, Started, Waits, owns, ownedIn}
-use Rattle.worked.specs.Worked.{example, alone, pair, fork, spare, chain, full, aloneAtHome, chainAtHome, forkFilled, filledAbove, leastIsOne, ticks, reads, everySecond, eachTurn, logFrom, turnsIn, turnsFrom, waitsAt, epochOfLeast, twoEpochs, startOf, printed, Case, table, WorkedTurns}
+use Rattle.worked.specs.Worked.{timed, example, alone, pair, fork, spare, chain, full, aloneAtHome, chainAtHome, forkFilled, filledAbove, leastIsOne, busyBank, slowWrites, ticks, reads, everySecond, eachTurn, refilled, behindReads, logFrom, turnsIn, turnsFrom, commandsIn, commandsFrom, passedFrom, waitsAt, epochOfLeast, twoEpochs, startOf, printed, Case, table, WorkedTurns}
 use Rattle.state.specs.declared.State.{State}
 use Rattle.requests.specs.declared.Call.{Call}
 use Rattle.requests.specs.declared.Call.the-variants.{Tick, Offer, Malformed}
@@ -51,7 +51,7 @@ use Rattle.rules.proofs.Calls.{answered-in-range}
 -- ---- the definitions that are computed with: to unfold one of these is to unfold all that its line names
 
 policy-computed : Policy → Policy
-unfolding example policyOf listOf every some setOf sum member includes belowMask isClassIn flowsIn strictlyIn betweenIn coversIn coverSet capIn minimumsAbove
+unfolding timed example policyOf listOf every some setOf sum member includes belowMask isClassIn flowsIn strictlyIn betweenIn coversIn coverSet capIn minimumsAbove
 policy-computed p = p
 
 refusal-computed : Policy → ℕ
@@ -122,7 +122,7 @@ at-right p s (w ∷ ws) t e =
     (either now)
 
 log-computed : Policy → List ℕ → List ℕ
-unfolding policy-computed plain plain-log ticks reads callOf isOffer requestOf wordOf classOf kindOf bankOf tagOf columnNumber commandNumber classFits bankAndKindFit offerOn offerStatus queuesAfter enqueue dequeue headOf lengthOf place waitingAt freshState stateAtStart emptyQueues nothingInFlight zeros silent afterTick tickOn turnsAt turnStarts turnNumber turnWord goesAt going canActivate drive answered dueAt sentAt activateAt activateNext activateKind gapMet gapsMetBy gapsMet offsetAllows activated first count size nth moved movedPointer named takesBy takes passedAt endsAt tryClass charge goesOn reaches nextLeft firstClass elides leftAtStart ownedBy startTurn least leastIn flowsIn leastAt every member freeTurns homeTurnIn homePlace minimumsBelow homeAt minimumsSum homeTurn homeClass flows takesHome leftTried charged
+unfolding policy-computed plain plain-log ticks reads callOf isOffer requestOf wordOf classOf kindOf bankOf tagOf columnNumber commandNumber classFits bankAndKindFit offerOn offerStatus queuesAfter enqueue dequeue headOf lengthOf place waitingAt passedOf closedUp passedAfter freshState stateAtStart emptyQueues nothingInFlight zeros silent afterTick tickOn turnsAt turnStarts turnNumber turnWord mayGo goesAt going canActivate drive answered dueAt sentAt activateAt activateNext activateKind gapMet gapsMetBy gapsMet offsetAllows activated first count size nth moved movedPointer named takesBy takes passedAt endsAt tryClass charge goesOn reaches nextLeft firstClass elides leftAtStart ownedBy startTurn least leastIn flowsIn leastAt every member freeTurns homeTurnIn homePlace minimumsBelow homeAt minimumsSum homeTurn homeClass flows takesHome leftTried charged
 log-computed p ws = plain-log p (freshState p) ws
 
 -- every state reached from the fresh one of a policy in range is in range
@@ -168,6 +168,23 @@ turns-from : (p : Policy) → inRange p ≡ true → (ws : List ℕ) → turnsFr
 unfolding turnsFrom turns-computed
 turns-from p given ws = ap (turnsIn (length ws)) (from-fresh p given ws)
 
+-- W-203's numbers in the same way
+commands-computed : Policy → List ℕ → List ℕ
+unfolding log-computed commandsIn
+commands-computed p ws = commandsIn (length ws) (log-computed p ws)
+
+commands-from : (p : Policy) → inRange p ≡ true → (ws : List ℕ) → commandsFrom p ws ≡ commands-computed p ws
+unfolding commandsFrom commands-computed
+commands-from p given ws = ap (commandsIn (length ws)) (from-fresh p given ws)
+
+passed-computed : Policy → List ℕ → ℕ
+unfolding log-computed plain-after
+passed-computed p ws = passedOf (plain-after p (freshState p) ws .queues) 0
+
+passed-from : (p : Policy) → inRange p ≡ true → (ws : List ℕ) → passedFrom p ws ≡ passed-computed p ws
+unfolding passedFrom passed-computed
+passed-from p given ws = ap (λ (s : State). passedOf (s .queues) 0) (after-right p (freshState p) ws (fresh-fits p given))
+
 two-epochs : (p : Policy) → inRange p ≡ true → (ws : List ℕ) → twoEpochs p ws ≡ turns-computed p ws ++ owned-computed p ws 0 ++ owned-computed p ws 1
 unfolding twoEpochs
 two-epochs p given ws = ap₂ _++_ (ap₂ _++_ (turns-from p given ws) (epoch-of-least p given ws 0)) (epoch-of-least p given ws 1)
@@ -179,7 +196,7 @@ also e es = ap₂ (λ (l : List ℕ) (ls : List (List ℕ)). l ∷ ls) e es
 
 -- each of its policies is in range; that is computed too, so its proof is `refl`
 cases : map (λ (c : Case). c .yielded) table ≡ map (λ (c : Case). c .stated) table
-unfolding table alone pair fork chain full aloneAtHome chainAtHome forkFilled filledAbove leastIsOne startOf turns-computed owned-computed file-computed range-computed eachTurn
+unfolding table alone pair fork chain full aloneAtHome chainAtHome forkFilled filledAbove leastIsOne busyBank slowWrites startOf turns-computed owned-computed commands-computed passed-computed file-computed range-computed eachTurn refilled behindReads
 cases =
     also (turns-from alone refl (ticks 13))
     (also (turns-from pair refl (reads 3 0 ++ ticks 9))
@@ -201,7 +218,12 @@ cases =
     (also (two-epochs filledAbove refl (eachTurn (reads 1 0) 4))
     (also (two-epochs leastIsOne refl (eachTurn (reads 1 1) 8))
     (also (epoch-of-least chainAtHome refl (ticks 8 ++ reads 1 0 ++ ticks 12) 0)
-    refl)))))))))))))))))))
+    (also (commands-from busyBank refl (0x80000001 ∷ 0x80000002 ∷ 0x80010003 ∷ 0x80120004 ∷ ticks 8))
+    (also (ap (drop 53) (commands-from slowWrites refl (behindReads 16 ++ ticks 8)))
+    (also
+    (ap₂ (λ (i j : ℕ). i ∷ j ∷ passedFrom slowWrites (behindReads 16 ++ ticks 6) ∷ passedFrom slowWrites (behindReads 16 ++ ticks 7) ∷ []) (passed-from slowWrites refl (behindReads 15)) (passed-from slowWrites refl (behindReads 16))
+    ∙ ap₂ (λ (i j : ℕ). passed-computed slowWrites (behindReads 15) ∷ passed-computed slowWrites (behindReads 16) ∷ i ∷ j ∷ []) (passed-from slowWrites refl (behindReads 16 ++ ticks 6)) (passed-from slowWrites refl (behindReads 16 ++ ticks 7)))
+    refl))))))))))))))))))))))
 
 -- what W-209's rows count is its premise
 waiting : (p : Policy) (ws : List ℕ) (c k : ℕ) → (waitsAt p ws c k ≡ true) ↔ (Started p ws k × Waits p ws k c)

@@ -1,4 +1,4 @@
--- Document 01's "Worked turns" (a) to (h), of which W-202 changes (c) and (d), W-202's own and W-209's: one table, whose cases the definitions yield. (a) and (e) speak of every turn, so they are stated of
+-- Document 01's "Worked turns" (a) to (h), of which W-202 changes (c) and (d), W-202's own, W-209's and W-203's: one table, whose cases the definitions yield. (a) and (e) speak of every turn, so they are stated of
 -- every policy too.
 use mathlib.Core.Path.{_≡_}
 use mathlib.Core.Logic.{_↔_}
@@ -12,16 +12,19 @@ use Rattle.file.specs.File.{readFile}
 use Rattle.policy.specs.Policy.{least, coversOf, cap, inRange}
 use Rattle.file.specs.Taken.{policyOf}
 use Rattle.policy.specs.declared.Policy.{Policy}
-use Rattle.queues.specs.Waiting.{lengthOf}
+use Rattle.queues.specs.Waiting.{lengthOf, passedOf}
 use Rattle.rules.specs.Step.{startTurn}
 use Rattle.state.specs.Fresh.{zeros, freshState}
-use Rattle.rules.specs.Calls.{logOf}
+use Rattle.rules.specs.Calls.{stateAfter, logOf}
 use Rattle.rules.specs.Guarantees.{ticksIn, atTick, firstTick, Started, Waits, ownedIn}
 
--- a policy by its rows, its epoch and its minimums, with the timing of the printed log
+-- a policy by its rows, its epoch, its minimums and its timing
+unfoldable pub timed : List ℕ → ℕ → List ℕ → ℕ → List ℕ → Policy
+timed rows epoch minimums n timing = policyOf n (λ i. getD rows i 0) epoch (λ i. getD minimums i 0) (λ i. getD timing i 0)
+
+-- with the timing of the printed log
 unfoldable pub example : List ℕ → ℕ → List ℕ → ℕ → Policy
-example rows epoch minimums n =
-    policyOf n (λ i. getD rows i 0) epoch (λ i. getD minimums i 0) (λ i. getD (4 ∷ 2 ∷ 2 ∷ 2 ∷ 2 ∷ 2 ∷ 2 ∷ 2 ∷ 1 ∷ 2 ∷ []) i 0)
+example rows epoch minimums n = timed rows epoch minimums n (4 ∷ 2 ∷ 2 ∷ 2 ∷ 2 ∷ 2 ∷ 2 ∷ 2 ∷ 1 ∷ 2 ∷ [])
 
 -- one class alone
 unfoldable pub alone : Policy
@@ -67,6 +70,14 @@ filledAbove = example (3 ∷ 2 ∷ []) 2 (0 ∷ 2 ∷ []) 2
 unfoldable pub leastIsOne : Policy
 leastIsOne = example (1 ∷ 7 ∷ 4 ∷ []) 4 (1 ∷ 0 ∷ 1 ∷ []) 3
 
+-- W-203: one class alone in turns of 20 cycles, with gaps of 1 between two of one kind and of 2 between two kinds, and of 6 in a bank
+unfoldable pub busyBank : Policy
+busyBank = timed (1 ∷ []) 1 (0 ∷ []) 1 (20 ∷ 8 ∷ 1 ∷ 2 ∷ 2 ∷ 1 ∷ 6 ∷ 6 ∷ 1 ∷ 2 ∷ [])
+
+-- one class alone in turns of 64 cycles, where a write waits 8 cycles after a read, and all other gaps are 1
+unfoldable pub slowWrites : Policy
+slowWrites = timed (1 ∷ []) 1 (0 ∷ []) 1 (64 ∷ 8 ∷ 1 ∷ 8 ∷ 1 ∷ 1 ∷ 1 ∷ 1 ∷ 1 ∷ 2 ∷ [])
+
 -- ---- traces and logs
 
 -- so many ticks, and so many offers of reads of a class, in bank 0
@@ -97,6 +108,26 @@ turnsIn (suc calls) log = elim (eqb (getD log 3 0) 0) [ true ↦ turnsIn calls (
 
 unfoldable pub turnsFrom : Policy → List ℕ → List ℕ
 turnsFrom p trace = turnsIn (length trace) (logFrom p trace)
+
+-- W-203: a read, a write and six reads of class 0, all in bank 0, and then so many times two ticks and one read more, so that some always wait
+unfoldable pub refilled : ℕ → List ℕ
+refilled zero = []
+refilled (suc n) = ticks 2 ++ reads 1 0 ++ refilled n
+
+unfoldable pub behindReads : ℕ → List ℕ
+behindReads n = reads 1 0 ++ (0x80100000 ∷ []) ++ reads 6 0 ++ refilled n
+
+-- the command numbers of a log of so many calls: the second of each call's four numbers
+unfoldable pub commandsIn : ℕ → List ℕ → List ℕ
+commandsIn zero log = []
+commandsIn (suc calls) log = getD log 1 0 ∷ commandsIn calls (drop 4 log)
+
+unfoldable pub commandsFrom : Policy → List ℕ → List ℕ
+commandsFrom p trace = commandsIn (length trace) (logFrom p trace)
+
+-- how many requests have passed class 0's oldest, after a trace
+unfoldable pub passedFrom : Policy → List ℕ → ℕ
+passedFrom p trace = passedOf (stateAfter p (freshState p) trace .queues) 0
 
 -- class c has a request waiting at the start of turn number k, which starts: W-209's premise as a truth value (`WorkedTurns.waiting`)
 unfoldable pub waitsAt : Policy → List ℕ → ℕ → ℕ → Bool
@@ -189,6 +220,25 @@ table =
     ∷ record { yielded = twoEpochs leastIsOne (eachTurn (reads 1 1) 8); stated = (258 ∷ 258 ∷ 1 ∷ 3 ∷ 258 ∷ 258 ∷ 1 ∷ 3 ∷ []) ++ (4 ∷ 2 ∷ 2 ∷ []) ++ (4 ∷ 2 ∷ 2 ∷ []) }
     -- a request at its home turn alone does not do: the chain of three again, where 0 has one waiting as turn 2 starts and at no other turn's start. It owns 1 turn of its cap of 3.
     ∷ record { yielded = epochOfLeast chainAtHome (ticks 8 ++ reads 1 0 ++ ticks 12) 0; stated = 1 ∷ 1 ∷ 3 ∷ [] }
+    -- W-203: "The owner now activates its oldest request whose gaps are met." Two reads of bank 0, a read of bank 1 and a write of bank 2: the second read of bank 0 waits until cycle 6, and meanwhile the read of bank 1 goes at 2 and the
+    -- write at 4. Between them go the column commands, a cycle after each activate.
+    ∷ record {
+      yielded = commandsFrom busyBank (0x80000001 ∷ 0x80000002 ∷ 0x80010003 ∷ 0x80120004 ∷ ticks 8);
+      stated = zeros 4 ++ (0x80000001 ∷ 0xC0000001 ∷ 0x80010003 ∷ 0xC0010003 ∷ 0x80120004 ∷ 0xC0120004 ∷ 0x80000002 ∷ 0xC0000002 ∷ []);
+    }
+    -- "A request that has been the oldest while 15 others passed it goes next, and nothing passes it again." A write is the oldest from cycle 1 on, and reads pass it at 2, 4, .. 30. Then, though reads wait whose gaps are met, none goes
+    -- until the write does, 8 cycles after the last read: the commands of cycles 30 to 39, with an offer after 31
+    ∷ record {
+      yielded = drop 53 (commandsFrom slowWrites (behindReads 16 ++ ticks 8));
+      stated = 0x80000000 ∷ 0xC0000000 ∷ 0 ∷ 0 ∷ 0 ∷ 0 ∷ 0 ∷ 0 ∷ 0 ∷ 0x80100000 ∷ 0xC0100000 ∷ [];
+    }
+    -- its count, after the read at 28, after that at 30, before the write goes and after it
+    ∷ record {
+      yielded =
+          passedFrom slowWrites (behindReads 15) ∷ passedFrom slowWrites (behindReads 16) ∷ passedFrom slowWrites (behindReads 16 ++ ticks 6) ∷ passedFrom slowWrites (behindReads 16 ++ ticks 7)
+          ∷ [];
+      stated = 14 ∷ 15 ∷ 15 ∷ 0 ∷ [];
+    }
     ∷ []
 
 pub record WorkedTurns : Type 0 where

@@ -1,13 +1,14 @@
-//! The rules of document 01, with requests W-201 and W-202 of document 02, written
-//! for speed: the measure of what a run could cost.
+//! The rules of document 01, with requests W-201, W-202 and W-203 of document 02,
+//! written for speed: the measure of what a run could cost.
 //!
 //! One struct holds policy and state in fixed arrays and is changed in place.
 //! Nothing is allocated after [`Controller::new`], and a tick that starts no
 //! turn neither divides nor looks at any class but the owner. Ticks are still
-//! made one by one: no stretch of idle ticks is skipped.
+//! made one by one: no stretch of idle ticks is skipped. The owner's requests are
+//! looked through once for each time that one of them could go, and not at each tick.
 
 use vigambul_model::policy::{self, Policy, LONGEST_EPOCH, MOST_CLASSES};
-use vigambul_model::state::{BANKS, LAST_CYCLE, QUEUE_LIMIT};
+use vigambul_model::state::{BANKS, LAST_CYCLE, MOST_PASSES, QUEUE_LIMIT};
 use vigambul_model::trace::{COLUMN_BIT, ELIDED, LINE, OFFER_BIT};
 
 /// Commands and answers in flight lie in rings by the cycle they are due at.
@@ -69,6 +70,8 @@ pub struct Controller {
     queues: [[u32; QUEUE_LIMIT]; MOST_CLASSES],
     heads: [u8; MOST_CLASSES],
     lengths: [u8; MOST_CLASSES],
+    /// How often the oldest request of each class has been passed.
+    passed: [u8; MOST_CLASSES],
     /// The classes with a request waiting.
     waiting: u16,
     turns_left: [u8; MOST_CLASSES],
@@ -82,6 +85,8 @@ pub struct Controller {
     kind_ready: [u32; 2],
     /// The first cycle at which the last activate of a bank lets another out.
     bank_ready: [u32; BANKS],
+    /// Before this cycle none of the owner's waiting requests can go.
+    none_before: u32,
 }
 
 /// Reads a policy file and runs a trace from its fresh state into a log, with
@@ -128,6 +133,7 @@ impl Controller {
             queues: [[0; QUEUE_LIMIT]; MOST_CLASSES],
             heads: [0; MOST_CLASSES],
             lengths: [0; MOST_CLASSES],
+            passed: [0; MOST_CLASSES],
             waiting: 0,
             turns_left: [0; MOST_CLASSES],
             with_turns: 0,
@@ -136,6 +142,7 @@ impl Controller {
             answers: [0; SLOTS],
             kind_ready: [0; 2],
             bank_ready: [0; BANKS],
+            none_before: 0,
         };
         controller.rows[..n].copy_from_slice(&policy.rows);
         controller.caps[..n].copy_from_slice(&policy.caps);
@@ -203,6 +210,8 @@ impl Controller {
         self.queues[class][place] = word;
         self.lengths[class] = length + 1;
         self.waiting |= 1 << class;
+        // It may be the owner's, and may go before those that were looked at.
+        self.none_before = self.kinds_ready();
         0
     }
 
@@ -221,8 +230,11 @@ impl Controller {
         let column = take(&mut self.columns[slot]);
         let command = if column != 0 {
             column | COLUMN_BIT
-        } else if cycle < self.window_end && self.waiting >> self.owner & 1 == 1 {
-            self.activate_head()
+        } else if cycle < self.window_end
+            && cycle >= self.none_before
+            && self.waiting >> self.owner & 1 == 1
+        {
+            self.activate_first()
         } else {
             0
         };
@@ -231,28 +243,77 @@ impl Controller {
         [0, command, answer, turn]
     }
 
-    /// Activates the head of the owner's queue, which is not empty, if all gaps
-    /// are met. Gives its word, or 0 if none goes out.
-    fn activate_head(&mut self) -> u32 {
+    /// Activates the oldest request of the owner's queue, which is not empty, whose gaps are
+    /// met. Gives its word, or 0 if none goes out.
+    fn activate_first(&mut self) -> u32 {
         let owner = self.owner % MOST_CLASSES;
+        let head = usize::from(self.heads[owner]) % QUEUE_LIMIT;
+        let oldest = self.queues[owner][head];
+        if self.cycle < self.ready(oldest) {
+            return self.activate_younger(owner, head);
+        }
+        self.passed[owner] = 0;
+        self.activate(owner, oldest)
+    }
+
+    /// The same where the oldest, which is at the ring's start, cannot go.
+    #[inline(never)]
+    fn activate_younger(&mut self, owner: usize, head: usize) -> u32 {
+        let place_of = |age: usize| (head + age) % QUEUE_LIMIT;
+        let mut first_ready = self.ready(self.queues[owner][head]);
+        // "A request that has been the oldest while 15 others passed it goes next".
+        if self.passed[owner] < MOST_PASSES {
+            for age in 1..usize::from(self.lengths[owner]) {
+                let word = self.queues[owner][place_of(age)];
+                let ready = self.ready(word);
+                if self.cycle < ready {
+                    first_ready = first_ready.min(ready);
+                    continue;
+                }
+                // "The rest of the queue closes up in its order": the older ones move by one
+                // place into the gap, and the ring starts after the place that is left.
+                for older in (0..age).rev() {
+                    self.queues[owner][place_of(older + 1)] = self.queues[owner][place_of(older)];
+                }
+                self.passed[owner] += 1;
+                return self.activate(owner, word);
+            }
+        }
+        self.none_before = first_ready;
+        0
+    }
+
+    /// Activates a request whose place was at the ring's start, or is filled up.
+    #[inline]
+    fn activate(&mut self, owner: usize, word: u32) -> u32 {
         let cycle = self.cycle;
-        let head = self.heads[owner];
-        let word = self.queues[owner][usize::from(head) % QUEUE_LIMIT];
         let kind = (word >> 20 & 1) as usize;
         let bank = (word >> 16) as usize % BANKS;
-        if cycle < self.kind_ready[kind] || cycle < self.bank_ready[bank] {
-            return 0;
-        }
-        self.heads[owner] = (head + 1) % QUEUE_LIMIT as u8;
+        self.heads[owner] = (self.heads[owner] + 1) % QUEUE_LIMIT as u8;
         self.lengths[owner] -= 1;
         if self.lengths[owner] == 0 {
             self.waiting &= !(1 << owner);
         }
         self.kind_ready = self.gaps[kind].map(|gap| cycle + gap);
         self.bank_ready[bank] = cycle + self.bank_gaps[kind];
+        self.none_before = self.kinds_ready();
         self.columns[(cycle + self.column_delay) as usize % SLOTS] = word;
         self.answers[(cycle + self.answer_delay) as usize % SLOTS] = word;
         word
+    }
+
+    /// The first cycle at which all gaps of a request are met.
+    #[inline]
+    fn ready(&self, word: u32) -> u32 {
+        let kind = (word >> 20 & 1) as usize;
+        let bank = (word >> 16) as usize % BANKS;
+        self.kind_ready[kind].max(self.bank_ready[bank])
+    }
+
+    /// The first cycle at which the last activate lets any other out.
+    #[inline]
+    fn kinds_ready(&self) -> u32 {
+        self.kind_ready[0].min(self.kind_ready[1])
     }
 
     /// Starts a turn and gives its number in the log.
@@ -262,6 +323,8 @@ impl Controller {
             self.with_turns = self.with_caps;
         }
         self.walk(self.plan[self.turn_in_epoch as usize]);
+        // What was looked at were another owner's requests.
+        self.none_before = self.kinds_ready();
         self.turn_in_epoch += 1;
         if self.turn_in_epoch == self.epoch {
             self.turn_in_epoch = 0;

@@ -1,7 +1,7 @@
 //! The policies and traces that speed is measured on.
 
 use vigambul_model::generate::{
-    malformed_word, missing_class_word, refused_offer, sound_offer, PolicyFields,
+    busy_bank_offer, malformed_word, missing_class_word, refused_offer, sound_offer, PolicyFields,
 };
 use vigambul_model::policy::{self, Policy, MOST_CLASSES};
 use vigambul_model::random::Random;
@@ -23,11 +23,21 @@ const TIMING: [u8; 10] = [16, 6, 2, 3, 3, 2, 4, 6, 2, 5];
 /// The same with the longest turns: one tick in 255 starts one.
 const LONG_TURNS: [u8; 10] = [255, 6, 2, 3, 3, 2, 4, 6, 2, 5];
 
+/// Turns of 64 with a dead time of 16, which is also the same-bank gap: a bank that is asked
+/// for again is busy for long.
+const BUSY_BANK: [u8; 10] = [64, 16, 2, 4, 4, 2, 16, 16, 3, 8];
+
 /// The workloads of the main table, each of so many trace numbers.
 pub fn main_workloads(length: usize) -> Vec<Workload> {
     vec![
         idle("idle ticks, a diamond", diamond(), length),
         saturated("one class, saturated", single(TIMING), length),
+        kept_full(
+            "one class, a busy bank",
+            single(BUSY_BANK),
+            length,
+            |random, class| busy_bank_offer(random, class, 0, 25),
+        ),
         saturated("chain of 16, saturated", chain(TIMING), length),
         idle("chain of 16, idle", chain(TIMING), length),
         saturated(
@@ -111,14 +121,26 @@ fn idle(name: &'static str, fields: PolicyFields, length: usize) -> Workload {
     }
 }
 
+/// Queues that are kept full of requests of any bank and either kind.
+fn saturated(name: &'static str, fields: PolicyFields, length: usize) -> Workload {
+    kept_full(name, fields, length, |random, class| {
+        sound_offer(random, class, 8)
+    })
+}
+
 /// Every queue is filled at the start, and each activate is followed by an offer
 /// of the same class: no queue ever empties, and none is offered too much.
-fn saturated(name: &'static str, fields: PolicyFields, length: usize) -> Workload {
+fn kept_full(
+    name: &'static str,
+    fields: PolicyFields,
+    length: usize,
+    offer_of: fn(&mut Random, u8) -> u32,
+) -> Workload {
     let (file, policy) = accepted(&fields);
     let random = &mut Random::new(1);
     let mut trace: Vec<u32> = (0..policy.class_count() as u8)
         .flat_map(|class| [class; QUEUE_LIMIT])
-        .map(|class| sound_offer(random, class, 8))
+        .map(|class| offer_of(random, class))
         .collect();
     let mut controller = Controller::new(&policy);
     for &offer in &trace {
@@ -129,7 +151,7 @@ fn saturated(name: &'static str, fields: PolicyFields, length: usize) -> Workloa
         let [_, command, _, _] = controller.call(0);
         if command != 0 && command & COLUMN_BIT == 0 {
             let class = (command >> 24 & 0x1F) as u8;
-            let offer = sound_offer(random, class, 8);
+            let offer = offer_of(random, class);
             trace.push(offer);
             controller.call(offer);
         }

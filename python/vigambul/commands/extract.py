@@ -3,7 +3,7 @@
 from .. import build
 from ..folders import extract_of, folder_at, run_folder
 from ..formats import HEADER, line_of
-from ..history import calls_of
+from ..history import calls_of, passing
 from ..purge import purge
 from ..words import call_words
 
@@ -15,8 +15,8 @@ def run(arguments):
     number = ran.names.number(arguments.of, ran.policy.classes)
     out = extract_of(library, ran, number)
     if arguments.words:
-        for call in calls_of(purge(ran.trace, ran.policy, number), out):
-            print(call_words(call, ran.names, ran.policy))
+        for call, older in passing(calls_of(purge(ran.trace, ran.policy, number), out)):
+            print(call_words(call, ran.names, ran.policy, older))
         return
     print(HEADER)
     for place in range(0, len(out), 4):

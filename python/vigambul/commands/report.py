@@ -43,8 +43,8 @@ def add(commands):
     command = commands.add_parser(
         "report",
         help="what each class got and waited for",
-        description="Runs the traces of folders and prints for each class its offers, answers, waits in cycles, turns, home turns, activates,\n"
-        "and its turns in an epoch against minimum and cap.",
+        description="Runs the traces of folders and prints for each class its offers, answers, waits in cycles, turns, home turns, activates\n"
+        "and those that passed an older request, and its turns in an epoch against minimum and cap.",
         epilog="examples:\n  vig report examples/two-tenants-busy\n  vig report examples/two-tenants examples/two-tenants-busy --csv figures.csv",
     )
     command.add_argument("folders", metavar="FOLDER", nargs="+", help="a folder with policy.bin and trace.bin")

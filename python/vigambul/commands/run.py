@@ -9,7 +9,7 @@ from .. import build
 from ..errors import Refused, Wrong
 from ..folders import folder_at, run_folder
 from ..formats import HEADER, REFUSALS, TICKS_OVER
-from ..history import calls_of
+from ..history import calls_of, passing
 from ..lines import CUT_TRACE, MANY, refusal_of
 from ..words import call_words, policy_refusal_words
 
@@ -36,8 +36,8 @@ def hand_on(program, folder):
 def in_words(library, folder):
     """Prints each line in words; hands back how often each status occurred."""
     ran = run_folder(library, folder)
-    for call in calls_of(ran.trace, ran.log):
-        print(call_words(call, ran.names, ran.policy))
+    for call, older in passing(calls_of(ran.trace, ran.log)):
+        print(call_words(call, ran.names, ran.policy, older))
     if folder.left_over:
         print(CUT_TRACE.decode())
     return Counter(ran.log[::4])
@@ -74,5 +74,5 @@ def add(commands):
         epilog="example:\n  vig run examples/two-tenants --words",
     )
     command.add_argument("folder", metavar="FOLDER", help="a folder with policy.bin and trace.bin")
-    command.add_argument("--words", action="store_true", help="each line in words: cycle, call, wires, answer, whose turn and whose home turn starts, dead time kept or dropped, refusal")
+    command.add_argument("--words", action="store_true", help="each line in words: cycle, call, wires, who passes older ones, answer, whose turn and home turn starts, dead time kept or dropped, refusal")
     command.set_defaults(run=run)

@@ -1,33 +1,44 @@
 -- `queues::queues_in_range` meets its contract. The invariant: the test passes at every number below `class`.
 -- Assumes nothing.
-use mathlib.Core.Bool.{Bool}
+use mathlib.Core.Path.{_≡_, ap}
+use mathlib.Core.Bool.{Bool, _&&_}
 use mathlib.Core.List.{List}
 use Prim.Native.Nat.{ℕ, _-_}
 use borrow.Author.Needs.{needs}
+use lib.Dec.{leb}
+use lib.ListN.{getD}
 use Rattle.basics.proofs.Loops.{Passed, passed-none, passed-all, goes-on, stops}
-use Rattle.queues.specs.Waiting.{queueInRange, headOf, lengthOf}
+use Rattle.queues.specs.Waiting.{queuesOf, queueInRange, headOf, lengthOf, passedOf}
 use Rattle.queues.proofs.queues_in_range.Statement.{statement}
 use Rattle.queues.proofs.queues_in_range.Tie as tie
 
 -- the test at a number
-abbrev test : ℕ → List ℕ → List ℕ → List ℕ → ℕ → Bool
-test classes slots heads lengths k = queueInRange classes (record { slots = slots; heads = heads; lengths = lengths }) k
+abbrev test : ℕ → List ℕ → List ℕ → List ℕ → List ℕ → ℕ → Bool
+test classes slots heads lengths passed k = queueInRange classes (queuesOf slots heads lengths passed) k
 
 abbrev Inv-loop : tie.InvT-loop
-Inv-loop classes slots heads lengths class₀ class = Passed (test classes slots heads lengths) 16 class
+Inv-loop classes slots heads lengths passed class₀ class = Passed (test classes slots heads lengths passed) 16 class
 
 abbrev μ-loop : tie.MeasureT-loop
-μ-loop classes slots heads lengths class₀ class = 16 - class
+μ-loop classes slots heads lengths passed class₀ class = 16 - class
 
 -- the places that the answers look back to: `in-loop-of-queue-in-range` is `In-loop`, seen from `After-queue-in-range`
 abbrev in-loop-of-queue-in-range : tie.After-queue-in-range Inv-loop μ-loop → tie.In-loop Inv-loop μ-loop
 in-loop-of-queue-in-range c = c .before .before .before
 
+abbrev start-of : tie.After-queue-in-range Inv-loop μ-loop → tie.Start Inv-loop μ-loop
+start-of c = in-loop-of-queue-in-range c .before .before
+
 abbrev in-loop-of-then1 : tie.Then1 Inv-loop μ-loop → tie.In-loop Inv-loop μ-loop
-in-loop-of-then1 c = in-loop-of-queue-in-range (c .before)
+in-loop-of-then1 c = in-loop-of-queue-in-range (c .before .before)
 
 abbrev in-loop-of-else1 : tie.Else1 Inv-loop μ-loop → tie.In-loop Inv-loop μ-loop
-in-loop-of-else1 c = in-loop-of-queue-in-range (c .before)
+in-loop-of-else1 c = in-loop-of-queue-in-range (c .before .before)
+
+-- the ring's test and the count's are the test at a number
+both : (c : tie.After-queue-in-range Inv-loop μ-loop) → (c .queue-in-range .result && leb (getD (start-of c .args .passed .now) (in-loop-of-queue-in-range c .before .loop .class) 0) 15) ≡ test (start-of c .args .classes) (start-of c .args .slots .now) (start-of c .args .heads .now) (start-of c .args .lengths .now) (start-of c .args .passed .now) (in-loop-of-queue-in-range c .before .loop .class)
+unfolding queueInRange headOf lengthOf passedOf
+both c = ap (λ (b : Bool). b && leb (getD (start-of c .args .passed .now) (in-loop-of-queue-in-range c .before .loop .class) 0) 15) (c .queue-in-range .ensures)
 
 loop-holds : tie.Need-loop-holds Inv-loop μ-loop
 loop-holds c = passed-none _ 16
@@ -47,9 +58,14 @@ element-copy-out-queue-in-range-2 c = search needs
 queue-in-range-requires : tie.Need-queue-in-range-requires Inv-loop μ-loop
 queue-in-range-requires c κs = search needs
 
+mul-if1 : tie.Need-mul-if1 Inv-loop μ-loop
+mul-if1 c = search needs
+
+element-copy-out-if1 : tie.Need-element-copy-out-if1 Inv-loop μ-loop
+element-copy-out-if1 c = search needs
+
 returns : tie.Need-returns Inv-loop μ-loop
-unfolding queueInRange headOf lengthOf
-returns c = let body = in-loop-of-then1 c in stops _ 16 (body .before .loop .class) (body .loop-test .taken) (c .before .queue-in-range .ensures) (c .if1 .taken)
+returns c = let body = in-loop-of-then1 c in stops _ 16 (body .before .loop .class) (body .loop-test .taken) (both (c .before .before)) (c .if1 .taken)
 
 add-class : tie.Need-add-class Inv-loop μ-loop
 add-class c = search needs
@@ -58,12 +74,10 @@ loop-less : tie.Need-loop-less Inv-loop μ-loop
 loop-less c = search needs
 
 loop-again : tie.Need-loop-again Inv-loop μ-loop
-unfolding queueInRange headOf lengthOf
 loop-again c = let body = in-loop-of-else1 c in
-    let loop = body .before in goes-on _ 16 (loop .loop .class) (loop .loop .inv) (body .loop-test .taken) (c .before .queue-in-range .ensures) (c .if1 .left)
+    let loop = body .before in goes-on _ 16 (loop .loop .class) (loop .loop .inv) (body .loop-test .taken) (both (c .before .before)) (c .if1 .left)
 
 returns-2 : tie.Need-returns-2 Inv-loop μ-loop
-unfolding queueInRange headOf lengthOf
 returns-2 c =
     let loop = c .before in
     passed-all _ 16 (loop .loop .class) (loop .loop .inv) (c .loop-test .left)
@@ -80,6 +94,8 @@ queues-in-range-spec =
     mul-queue-in-range-2
     element-copy-out-queue-in-range-2
     queue-in-range-requires
+    mul-if1
+    element-copy-out-if1
     returns
     add-class
     loop-less

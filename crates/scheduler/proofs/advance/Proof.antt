@@ -7,22 +7,23 @@ use Prim.Native.Nat.{_*_}
 use borrow.Author.Needs.{needs}
 use lib.ListN.{length, drop}
 use Rattle.state.specs.Range.{inRange}
+use Rattle.rules.specs.Call.{busAt}
 use Rattle.rules.specs.Calls.{stateAfter, logOf}
 use Rattle.scheduler.specs.InPlace.{InStep, momentOf}
 use Rattle.scheduler.specs.declared.ticking.Moment.{Moment}
 use Rattle.state.specs.declared.State.{State}
 use Rattle.rules.proofs.Range.{ranged}
-use Rattle.scheduler.proofs.InPlace.{with-numbers}
+use Rattle.scheduler.proofs.InPlace.{with-numbers, nothing-known}
 use Rattle.scheduler.proofs.advance.Statement.{statement}
 use Rattle.scheduler.proofs.advance.Tie as tie
 
--- ---- places: the state is taken apart in fourteen steps, and lent in eleven
+-- ---- places: the state is taken apart in fifteen steps, and lent in twelve
 
 abbrev start-apart : tie.After-banks → tie.Start
-start-apart c = c .before .before .before .before .before .before .before .before .before .before .before .before .before .before .before .before
+start-apart c = c .before .before .before .before .before .before .before .before .before .before .before .before .before .before .before .before .before
 
 abbrev at-moment : tie.After-calls-arg → tie.After-moment-of
-at-moment c = c .before .before .before .before .before .before .before .before .before .before .before .before
+at-moment c = c .before .before .before .before .before .before .before .before .before .before .before .before .before
 
 abbrev start-moment : tie.After-moment-of → tie.Start
 start-moment c = start-apart (c .before)
@@ -40,10 +41,12 @@ calls-requires c κs =
     let s = start-moment at in
     let p = s .args .p in
     let e : at .moment-of .result ≡ momentOf p (s .args .s) = at .moment-of .ensures in
-    let fit = ranged p (s .args .s) (s .pre .0) .fit in (
+    let fit = ranged p (s .args .s) (s .pre .0) .fit in
+    let work = with-numbers (s .args .s) (at .moment-of .result) in (
       record {
         ranges = subst (λ (x : State). inRange p x ≡ true) (sym (same-state at)) (s .pre .0);
         in-step = subst (InStep p) (sym e) refl;
+        rests = nothing-known (busAt p work (work .turns)) (at .moment-of .result .rest) (ap (λ (m : Moment). m .rest) e);
         lent = record { fit = fit; bottom-is = ap (λ (m : Moment). m .bottom) e; free-is = ap (λ (m : Moment). m .free) e; rows-are = refl; covers-are = refl; caps-are = refl };
       },
       s .pre .1,

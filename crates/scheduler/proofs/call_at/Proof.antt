@@ -8,9 +8,10 @@ use Rattle.requests.specs.Sizes.{lastCycle}
 use Rattle.requests.specs.Word.{commandNumber}
 use Rattle.queues.specs.Waiting.{queuesOf}
 use Rattle.requests.specs.Trace.{callOf}
-use Rattle.rules.specs.Call.{offerOn, silent}
+use Rattle.rules.specs.Call.{offerOn, busAt, silent}
 use Rattle.rules.specs.Calls.{Answer, ticked, offered, answerTo}
-use Rattle.scheduler.specs.InPlace.{stateOf, answerOf, answeredWith, Continues}
+use Rattle.scheduler.specs.InPlace.{withRest, stateOf, answerOf, answeredWith, Resting, Continues}
+use Rattle.scheduler.specs.declared.ticking.Moment.{Moment}
 use Rattle.scheduler.specs.declared.ticking.Called.{Called}
 use Rattle.queues.specs.declared.Queues.{Queues}
 use Rattle.state.specs.declared.State.{State}
@@ -19,7 +20,7 @@ use Rattle.rules.proofs.Range.{ranged, small-classes}
 use Rattle.requests.proofs.Trace.{offer-word}
 use Rattle.rules.proofs.Call.{offer-is, tick-is, tick-late, called-tick, called-offer, called-malformed}
 use Rattle.wires.proofs.InPlace.{queued-by}
-use Rattle.scheduler.proofs.InPlace.{with-numbers}
+use Rattle.scheduler.proofs.InPlace.{with-numbers, nothing-known}
 use Rattle.scheduler.proofs.call_at.Statement.{statement}
 use Rattle.scheduler.proofs.call_at.Tie as tie
 
@@ -35,7 +36,7 @@ abbrev at-late : tie.Then1 → tie.After-call-of
 at-late c = c .before .before .before .before
 
 abbrev before-tick : tie.After-tick-in-place → tie.Else1
-before-tick c = c .before .before .before .before .before .before .before .before .before
+before-tick c = c .before .before .before .before .before .before .before .before .before .before
 
 abbrev at-offer : tie.After-offer → tie.After-call-of
 at-offer c = c .before .before .before .before .before .before .before
@@ -43,7 +44,7 @@ at-offer c = c .before .before .before .before .before .before .before
 -- ---- the state before, and the definition's answer
 
 abbrev given : tie.Start → State
-given s = stateOf (s .args .m) (s .args .slots .now) (s .args .heads .now) (s .args .lengths .now) (s .args .left .now) (s .args .pointers .now) (s .args .columns .now) (s .args .responses .now) (s .args .banks .now)
+given s = stateOf (s .args .m) (s .args .slots .now) (s .args .heads .now) (s .args .lengths .now) (s .args .passed .now) (s .args .left .now) (s .args .pointers .now) (s .args .columns .now) (s .args .responses .now) (s .args .banks .now)
 
 abbrev right : tie.Start → Answer
 right s = answerTo (s .args .p) (given s) (s .args .word)
@@ -56,10 +57,15 @@ queued s q = record { cycle = s .cycle; classes = s .classes; queues = q; turns 
 abbrev left-by : State → Called → Answer
 left-by s r = answerOf r (with-numbers s (r .moment))
 
--- a call that shows nothing leaves the numbers
-stays-by : (s : tie.Start) (r : Called) {k : ℕ} → r ≡ answeredWith (s .args .m) k → Continues (s .args .p) (s .args .m) (r .moment)
-stays-by s r e =
+-- a call that shows nothing leaves the numbers, but perhaps for the tick before which none may go
+stays-by : (s : tie.Start) (r : Called) (rest : ℕ) {k : ℕ} → r ≡ answeredWith (withRest (s .args .m) rest) k → Continues (s .args .p) (s .args .m) (r .moment)
+stays-by s r rest e =
     subst (λ (x : Called). Continues (s .args .p) (s .args .m) (x .moment)) (sym e) (record { in-step = s .pre .in-step; same-bottom = refl; same-free = refl; same-count = refl })
+
+-- where the state stays too, so does that
+rests-by : (s : tie.Start) (r : Called) {k : ℕ} → r ≡ answeredWith (s .args .m) k → given s ≡ right s .state → Resting (s .args .p) (right s .state) (r .moment)
+rests-by s r e same =
+    subst (λ (x : Called). Resting (s .args .p) (right s .state) (x .moment)) (sym e) (subst (λ (u : State). Resting (s .args .p) u (s .args .m)) same (s .pre .rests))
 
 -- the word, told apart, is the call
 told : (c : tie.After-call-of) (call : Call) → c .call-of .result ≡ call → callOf (start-told c .args .word) ≡ call
@@ -79,16 +85,18 @@ returns : tie.Need-returns
 unfolding silent commandNumber
 returns c =
     let test = c .before in
-    let s = start-told (at-late test) in (
-      ap (left-by (given s)) (c .answered .ensures)
-          ∙ sym (ap ticked (tick-late (s .args .p) (given s) (s .pre .ranges) (le-ltb (s .args .m .cycle) lastCycle (test .if1 .taken))))
-          ∙ sym (called-tick (s .args .p) (given s) (s .args .word) (told (at-late test) _ (test .before .before .enum-told .given .1))),
-      stays-by s (c .answered .result) (c .answered .ensures),
+    let s = start-told (at-late test) in
+    let refused =
+    sym (ap ticked (tick-late (s .args .p) (given s) (s .pre .ranges) (le-ltb (s .args .m .cycle) lastCycle (test .if1 .taken))))
+    ∙ sym (called-tick (s .args .p) (given s) (s .args .word) (told (at-late test) _ (test .before .before .enum-told .given .1)))
+    in (
+      ap (left-by (given s)) (c .answered .ensures) ∙ refused,
+      (stays-by s (c .answered .result) (s .args .m .rest) (c .answered .ensures), rests-by s (c .answered .result) (c .answered .ensures) (ap (λ (a : Answer). a .state) refused)),
     )
 
 tick-in-place-requires : tie.Need-tick-in-place-requires
 tick-in-place-requires c κs =
-    let test = c .before .before .before .before .before .before .before .before in
+    let test = c .before .before .before .before .before .before .before .before .before in
     (start-told (at-tick test) .pre, test .if1 .left)
 
 enum-known-call : tie.Need-enum-known-call
@@ -96,6 +104,9 @@ enum-known-call c = search needs
 
 offer-requires : tie.Need-offer-requires
 offer-requires c κs = search needs
+
+unrested-requires : tie.Need-unrested-requires
+unrested-requires c κs = search needs
 
 answered-requires-2 : tie.Need-answered-requires-2
 answered-requires-2 c κs = search needs
@@ -110,38 +121,42 @@ answered-requires-3 c κs = search needs
 returns-2 : tie.Need-returns-2
 returns-2 c =
     let test = before-tick c in
-    let s = start-told (at-tick test) in (
-      c .tick-in-place .ensures .0
-          ∙ sym (ap ticked (tick-is (s .args .p) (given s) (s .pre .ranges) (lt-ltb (s .args .m .cycle) lastCycle (test .if1 .left))))
-          ∙ sym (called-tick (s .args .p) (given s) (s .args .word) (told (at-tick test) _ (test .before .before .enum-told .given .1))),
-      c .tick-in-place .ensures .1,
+    let s = start-told (at-tick test) in
+    let did =
+    sym (ap ticked (tick-is (s .args .p) (given s) (s .pre .ranges) (lt-ltb (s .args .m .cycle) lastCycle (test .if1 .left))))
+    ∙ sym (called-tick (s .args .p) (given s) (s .args .word) (told (at-tick test) _ (test .before .before .enum-told .given .1)))
+    in (
+      c .tick-in-place .ensures .0 ∙ did,
+      (c .tick-in-place .ensures .1 .0, subst (λ (a : Answer). Resting (s .args .p) (a .state) (c .tick-in-place .result .moment)) did (c .tick-in-place .ensures .1 .1)),
     )
 
 -- what the offer in place left is the offer
 returns-3 : tie.Need-returns-3
 unfolding offerOn
 returns-3 c =
-    let offer = c .before in
+    let cleared = c .before in
+    let offer = cleared .before in
     let at = at-offer offer in
     let s = start-told at in
     let call = offer .before .before .before .before .before in
     let did = offer .offer .ensures in
     let status = did .0 (small-classes (s .args .p) (given s) (ranged (s .args .p) (given s) (s .pre .ranges))) in
-    let queues = did .1 ∙ queued-by (s .args .m .classes) (given s .queues) _ _ _ status (offer-word (s .args .word) _ (told at _ (call .call .given .1))) in (
-      ap (left-by (queued (given s) (queuesOf (offer .offer .last .1 .0) (s .args .heads .now) (offer .offer .last .1 .1 .1 .0)))) (c .answered2 .ensures)
+    let answers = c .answered2 .ensures ∙ ap (λ (m : Moment). answeredWith m (offer .offer .result)) (cleared .unrested .ensures) in
+    let queues = did .1 (s .args .passed .now) ∙ queued-by (s .args .m .classes) (given s .queues) _ _ _ status (offer-word (s .args .word) _ (told at _ (call .call .given .1))) in (
+      ap (left-by (queued (given s) (queuesOf (offer .offer .last .1 .0) (s .args .heads .now) (offer .offer .last .1 .1 .1 .0) (s .args .passed .now)))) answers
           ∙ ap₂ (λ (k : ℕ) (q : Queues). record { state = queued (given s) q; status = k; command = 0; response = 0; turn = 0 }) status queues
           ∙ sym (called-offer (s .args .p) (given s) (s .args .word) _ (told at _ (call .call .given .1)) ∙ ap offered (offer-is (s .args .p) (given s) (s .pre .ranges) _)),
-      stays-by s (c .answered2 .result) (c .answered2 .ensures),
+      (stays-by s (c .answered2 .result) 0 answers, nothing-known (busAt (s .args .p) (right s .state) (right s .state .turns)) (c .answered2 .result .moment .rest) (ap (λ (x : Called). x .moment .rest) answers)),
     )
 
 returns-4 : tie.Need-returns-4
 returns-4 c =
     let neither = c .before in
     let at = neither .before .before in
-    let s = start-told at in (
-      ap (left-by (given s)) (c .answered3 .ensures)
-          ∙ sym (called-malformed (s .args .p) (given s) (s .args .word) (told at _ (neither .enum-told2 .given .1))),
-      stays-by s (c .answered3 .result) (c .answered3 .ensures),
+    let s = start-told at in
+    let refused = sym (called-malformed (s .args .p) (given s) (s .args .word) (told at _ (neither .enum-told2 .given .1))) in (
+      ap (left-by (given s)) (c .answered3 .ensures) ∙ refused,
+      (stays-by s (c .answered3 .result) (s .args .m .rest) (c .answered3 .ensures), rests-by s (c .answered3 .result) (c .answered3 .ensures) (ap (λ (a : Answer). a .state) refused)),
     )
 
 pub call-at-spec : {M : Type 1} → statement M
@@ -155,6 +170,7 @@ call-at-spec =
     tick-in-place-requires
     enum-known-call
     offer-requires
+    unrested-requires
     answered-requires-2
     enum-told-2
     answered-requires-3

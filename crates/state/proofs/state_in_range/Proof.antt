@@ -15,8 +15,11 @@ use Rattle.state.proofs.state_in_range.Tie as tie
 abbrev else1-of-heads : tie.After-heads → tie.Else1
 else1-of-heads c = c .before .before .before
 
+abbrev else1-of-passed : tie.After-passed → tie.Else1
+else1-of-passed c = else1-of-heads (c .before .before)
+
 abbrev else1-of-left : tie.After-left → tie.Else1
-else1-of-left c = else1-of-heads (c .before .before .before)
+else1-of-left c = else1-of-passed (c .before .before)
 
 abbrev else1-of-covers : tie.After-covers → tie.Else1
 else1-of-covers c = else1-of-left (c .before .before .before)
@@ -25,8 +28,9 @@ abbrev else1-of-slots2 : tie.After-slots2 → tie.Else1
 else1-of-slots2 c = else1-of-covers (c .before .before .before)
 
 abbrev else1-of-queues-in-range : tie.After-queues-in-range → tie.Else1
-else1-of-queues-in-range c = else1-of-slots2 (c .before .before .before)
+else1-of-queues-in-range c = else1-of-slots2 (c .before .before .before .before)
 
+-- (The state has too many fields for a search to enter them all: it is handed what is known of the turns, and of what is in flight.)
 well-shaped : (c : tie.Start) → shaped (c .args .s) ≡ true
 unfolding shaped
 well-shaped c =
@@ -34,15 +38,16 @@ well-shaped c =
     let slots : length (s .queues .slots) ≡ 128 = search needs in
     let heads : length (s .queues .heads) ≡ 16 = search needs in
     let lengths : length (s .queues .lengths) ≡ 16 = search needs in
+    let passed : length (s .queues .passed) ≡ 16 = search needs in
     let left : length (s .turns .left) ≡ 16 = search needs in
-    let pointers : length (s .turns .pointers) ≡ 16 = search needs in
-    let columns : length (s .flight .columns) ≡ 32 = search needs in
-    let responses : length (s .flight .responses) ≡ 32 = search needs in
-    let banks : length (s .flight .banks) ≡ 8 = search needs in
+    let pointers : length (s .turns .pointers) ≡ 16 = search (needs, c .good .0 .1 .1 .1 .1 .1 .0) in
+    let columns : length (s .flight .columns) ≡ 32 = search (needs, c .good .0 .1 .1 .1 .1 .1 .1) in
+    let responses : length (s .flight .responses) ≡ 32 = search (needs, c .good .0 .1 .1 .1 .1 .1 .1) in
+    let banks : length (s .flight .banks) ≡ 8 = search (needs, c .good .0 .1 .1 .1 .1 .1 .1) in
     and-both
     (and-both
     (and-both
-    (and-both (and-both (and-both (and-both (eq-eqb _ 128 slots) (eq-eqb _ 16 heads)) (eq-eqb _ 16 lengths)) (eq-eqb _ 16 left)) (eq-eqb _ 16 pointers))
+    (and-both (and-both (and-both (and-both (and-both (eq-eqb _ 128 slots) (eq-eqb _ 16 heads)) (eq-eqb _ 16 lengths)) (eq-eqb _ 16 passed)) (eq-eqb _ 16 left)) (eq-eqb _ 16 pointers))
     (eq-eqb _ 32 columns))
     (eq-eqb _ 32 responses))
     (eq-eqb _ 8 banks)

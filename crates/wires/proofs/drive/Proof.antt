@@ -2,22 +2,26 @@
 -- the tests that led to it.
 -- Assumes nothing.
 use mathlib.Core.Path.{_≡_, refl, sym, ap, ap₂, _∙_, subst}
-use mathlib.Core.Bool.{Bool, true, _&&_}
-use Prim.Native.Nat.{ℕ, _+_, _-_, _%_, _≤_, _<_}
+use mathlib.Core.Logic.{⊎-elim}
+use mathlib.Core.Bool.{true, false}
+use Prim.Native.Nat.{ℕ, _+_, _%_, _<_}
+use native.Mathlib.Nat.{not-suc-le-zero}
 use native.Mathlib.Omega.{arith}
 use borrow.Author.Needs.{needs}
-use borrow.Author.Tests.{eq-eqb, ne-eqb, lt-ltb, le-ltb}
+use borrow.Author.Tests.{eq-eqb, ne-eqb, ltb-true, lt-ltb, le-ltb}
 use lib.Dec.{ltb, eqb}
-use lib.ListN.{getD, set}
-use Rattle.basics.proofs.Truth.{not-true, not-not, and-both, and-fails-left, and-fails-right}
+use lib.ListN.{getD}
+use Rattle.basics.specs.Below.{some, first}
+use Rattle.basics.proofs.Truth.{false-unless, not-both, not-true, not-not, and-both, and-fails-left, and-fails-right, or-left, or-cases}
+use Rattle.basics.proofs.Below.{some-found, first-some}
 use Rattle.requests.specs.Word.{isOffer, columnNumber, commandNumber}
-use Rattle.queues.specs.Waiting.{headOf, lengthOf, place, waitingAt, queuesOf}
+use Rattle.queues.specs.Waiting.{headOf, lengthOf, passedOf, place as place-of, waitingAt, queuesOf}
 use Rattle.flight.specs.Flight.{dueAt, flightOf, sentAt}
 use Rattle.rules.specs.Queue.{dequeue}
-use Rattle.rules.specs.Wire.{gapsMetBy, gapsMet, offsetAllows, activated}
-use Rattle.rules.specs.Step.{Driven, Bus, dueColumn, goesAt, going, canActivate, drive}
+use Rattle.rules.specs.Wire.{gapsMet, offsetAllows, activated}
+use Rattle.rules.specs.Step.{Driven, Bus, dueColumn, mayGo, goesAt, going, canActivate, columnSent, drive}
 use Rattle.rules.specs.Ready.{SoundRequest}
-use Rattle.wires.specs.InPlace.{busOf, Drivable, Carried}
+use Rattle.wires.specs.InPlace.{mayGoBy, Scannable, busOf, Rests, Drivable, Carried}
 use Rattle.wires.specs.declared.Drove.{Drove}
 use Rattle.queues.specs.declared.Queues.{Queues}
 use Rattle.requests.proofs.Word.{word-back, offer-fits}
@@ -31,36 +35,28 @@ abbrev start-1 : tie.Else1 → tie.Start
 start-1 c = c .before .before .before
 
 abbrev start-2 : tie.Else2 → tie.Start
-start-2 c = start-1 (c .before .before)
+start-2 c = start-1 (c .before .before .before)
 
-abbrev else2-of-else3 : tie.Else3 → tie.Else2
-else2-of-else3 c = c .before .before .before
+-- and from the answer on which request goes
+abbrev else2-of : tie.After-goes-at → tie.Else2
+else2-of c = c .before .before .before .before .before .before .before
 
-abbrev else1-of-else3 : tie.Else3 → tie.Else1
-else1-of-else3 c = else2-of-else3 c .before .before
+abbrev else1-of : tie.After-goes-at → tie.Else1
+else1-of c = else2-of c .before .before .before
 
-abbrev start-3 : tie.Else3 → tie.Start
-start-3 c = start-2 (else2-of-else3 c)
-
-abbrev start-head : tie.After-head-of → tie.Start
-start-head c = start-3 (c .before .before)
-
-abbrev at-head : tie.After-gaps-met → tie.After-head-of
-at-head c = c .before .before .before .before
-
-abbrev start-gaps : tie.After-gaps-met → tie.Start
-start-gaps c = start-head (at-head c)
+abbrev start-of : tie.After-goes-at → tie.Start
+start-of c = start-2 (else2-of c)
 
 -- ---- what the function was lent, and what its promise rests on
 
 abbrev queues-of : tie.Start → Queues
-queues-of s = queuesOf (s .args .slots .now) (s .args .heads .now) (s .args .lengths .now)
+queues-of s = queuesOf (s .args .slots .now) (s .args .heads .now) (s .args .lengths .now) (s .args .passed .now)
 
 abbrev bus-of : tie.Start → Bus
 bus-of s = busOf (s .args .timing) (s .args .at) (queues-of s) (flightOf (s .args .columns .now) (s .args .responses .now) (s .args .banks .now) (s .args .at .last))
 
 abbrev Given : tie.Start → Type 0
-Given s = Drivable (bus-of s) (s .args .at .offset)
+Given s = Drivable (bus-of s) (s .args .at .offset) (s .args .at .rest)
 
 -- ---- what each test says
 
@@ -77,52 +73,65 @@ allows c g = c .offset-allows .ensures (g .ready .timed, g .in-step)
 owner-is : (s : tie.Start) → Given s → s .args .at .owner % 16 ≡ s .args .at .owner
 owner-is s g = omega (arith, g .ready .class)
 
--- a request of what is read as the owner waits
-some-wait : (c : tie.Else3) → 0 < getD (start-3 c .args .lengths .now) (start-3 c .args .at .owner % 16) 0
-some-wait c = omega (arith, c .if3 .left)
+-- the queue of what is read as the owner can be looked through
+scannable : (c : tie.After-goes-at) → Given (start-of c) → Scannable (start-of c .args .slots .now) (start-of c .args .at .owner % 16) (getD (start-of c .args .heads .now) (start-of c .args .at .owner % 16) 0) (getD (start-of c .args .lengths .now) (start-of c .args .at .owner % 16) 0)
+unfolding headOf lengthOf waitingAt
+scannable c g =
+    let a = start-of c .args in
+    subst (λ (o : ℕ). Scannable (a .slots .now) o (getD (a .heads .now) o 0) (getD (a .lengths .now) o 0)) (sym (owner-is (start-of c) g))
+    (record { short = g .ready .short; bank = λ k waits. g .ready .sound k waits .bank; kind = λ k waits. g .ready .sound k waits .kind })
 
--- and so one of the owner's does
-waits : (c : tie.Else3) → Given (start-3 c) → goesAt (bus-of (start-3 c)) < lengthOf (queues-of (start-3 c)) (start-3 c .args .at .owner)
-unfolding goesAt lengthOf
-waits c g = rw (owner-is (start-3 c) g) at (some-wait c)
+-- so the place found is that of the request that goes
+place-is : (c : tie.After-goes-at) → Given (start-of c) → c .goes-at .result .place ≡ goesAt (bus-of (start-of c))
+unfolding goesAt mayGo gapsMet headOf lengthOf passedOf waitingAt
+place-is c g =
+    let a = start-of c .args in
+    let found : ℕ → ℕ =
+    λ o. first (getD (a .lengths .now) o 0) (mayGoBy (a .timing) (a .at .cycle) (a .at .last) (a .slots .now) (a .banks .now) o (getD (a .heads .now) o 0) (getD (a .passed .now) o 0))
+    in
+    c .goes-at .ensures .0 (scannable c g) ∙ ap found (owner-is (start-of c) g)
 
--- the word read is that of the request that goes
-word-is : (c : tie.After-head-of) → Given (start-head c) → c .head-of .result ≡ going (bus-of (start-head c))
-unfolding going goesAt waitingAt headOf
-word-is c g =
-    let a = start-head c .args in
-    c .head-of .ensures ∙ ap (λ (k : ℕ). getD (a .slots .now) (place k (getD (a .heads .now) k 0) 0) 0) (owner-is (start-head c) g)
+-- and before the tick found none may go
+rests-from : (c : tie.After-goes-at) → Given (start-of c) → Rests (bus-of (start-of c)) (c .goes-at .result .rest)
+unfolding mayGo gapsMet headOf lengthOf passedOf waitingAt
+rests-from c g =
+    let a = start-of c .args in
+    let before : ℕ → Type 0 =
+    λ o. (t : ℕ) → t + 1 < c .goes-at .result .rest → (k : ℕ) → k < getD (a .lengths .now) o 0
+    → mayGoBy (a .timing) t (a .at .last) (a .slots .now) (a .banks .now) o (getD (a .heads .now) o 0) (getD (a .passed .now) o 0) k ≡ false
+    in
+    subst before (owner-is (start-of c) g) (c .goes-at .ensures .1 .0 (scannable c g))
 
--- and so it is an offer, and has a bank and a kind
-sound : (c : tie.After-head-of) → Given (start-head c) → SoundRequest (c .head-of .result)
-sound c g = subst SoundRequest (sym (word-is c g)) (g .ready .sound (waits (c .before .before) g))
+length-is : (s : tie.Start) → Given s → getD (s .args .lengths .now) (s .args .at .owner % 16) 0 ≡ lengthOf (queues-of s) (s .args .at .owner)
+unfolding lengthOf
+length-is s g = ap (λ (o : ℕ). getD (s .args .lengths .now) o 0) (owner-is s g)
 
--- the gaps asked for are those of the request that goes
-gaps-are : (c : tie.After-gaps-met) → Given (start-gaps c) → gapsMet (start-gaps c .args .timing) (bus-of (start-gaps c) .flight) (going (bus-of (start-gaps c))) (start-gaps c .args .at .cycle) ≡ c .gaps-met .result
-unfolding gapsMet
-gaps-are c g =
-    let a = start-gaps c .args in
-    let head = at-head c in
-    let request = sound head g in
-    let kind = c .before .kind-of .result in
-    let bank = c .before .before .before .bank-of .result in
-    let kind-is : kind % 2 ≡ kind = omega (arith, c .before .kind-of .ensures, request .kind) in
-    let bank-is : bank % 8 ≡ bank = omega (arith, c .before .before .before .bank-of .ensures, request .bank) in
-    let met : ℕ → ℕ → Bool = λ bank kind. gapsMetBy (a .timing) (a .at .last) (getD (a .banks .now) bank 0) kind (a .at .cycle) in
-    sym
-    (c .gaps-met .ensures
-    ∙ ap₂ met (bank-is ∙ c .before .before .before .bank-of .ensures) (kind-is ∙ c .before .kind-of .ensures)
-    ∙ ap (λ (w : ℕ). gapsMet (a .timing) (bus-of (start-gaps c) .flight) w (a .at .cycle)) (word-is head g))
+-- where none may go by now, none goes
+resting : (b : Bus) (rest : ℕ) → Rests b rest → b .cycle + 1 < rest → ltb (goesAt b) (lengthOf (b .queues) (b .owner)) ≡ false
+unfolding goesAt
+resting b rest rests early =
+    let n = lengthOf (b .queues) (b .owner) in
+    first-some (mayGo b) n ∙ false-unless (some n (mayGo b)) (λ t. let it = some-found (mayGo b) n t in not-both (it .2) (rests (b .cycle) early (it .0) (it .1)))
 
 -- ---- the outcomes, in the words of the contract
 
+-- the bus with what an outcome left
+abbrev after : Bus → Driven → Bus
+after b d = record { timing = b .timing; cycle = b .cycle; owner = b .owner; elided = b .elided; queues = d .queues; flight = d .flight }
+
+-- a column command that goes out leaves the last activates, and so the tick before which none may go
+column-rests : (b : Bus) (rest : ℕ) → Rests b rest → Rests (after b (columnSent b)) rest
+unfolding mayGo gapsMet
+column-rests b rest rests = rests
+
 module _ (b : Bus) (d : Driven) (e : drive b ≡ d) where
-  carried : (r : Drove) → r .command ≡ commandNumber (d .wires) → Carried b r (d .queues) (d .flight)
-  carried r k =
+  carried : (r : Drove) → r .command ≡ commandNumber (d .wires) → Rests (after b d) (r .rest) → Carried b r (d .queues) (d .flight)
+  carried r k rests =
       record {
         command = k ∙ sym (ap (λ (x : Driven). commandNumber (x .wires)) e);
         queues-are = sym (ap (λ (x : Driven). x .queues) e);
         flight-is = sym (ap (λ (x : Driven). x .flight) e);
+        rests = subst (λ (x : Driven). Rests (after b x) (r .rest)) (sym e) rests;
       }
 
 cast-place : tie.Need-cast-place
@@ -151,103 +160,108 @@ returns c g =
     let b = bus-of (test .before .before .before) in
     let offer = g .ready .due-offer (test .if1 .taken) in
     let fits : (dueColumn b + 1073741824) % 4294967296 ≡ dueColumn b + 1073741824 = omega (arith, offer-fits _ offer) in
-    carried b _ (drive-column b (ne-eqb _ 0 (test .if1 .taken))) _ (c .wrapping-add-u32 .ensures ∙ fits ∙ sym (ap columnNumber (word-back (dueColumn b) offer)))
+    carried b _ (drive-column b (ne-eqb _ 0 (test .if1 .taken))) _ (c .wrapping-add-u32 .ensures ∙ fits ∙ sym (ap columnNumber (word-back (dueColumn b) offer))) (column-rests b _ (g .rests))
 
 offset-allows-requires : tie.Need-offset-allows-requires
 offset-allows-requires c κs = search needs
 
+cast-if2 : tie.Need-cast-if2
+cast-if2 c = search needs
+
+add-if2 : tie.Need-add-if2
+add-if2 c = search needs
+
+-- the offset does not allow it, or none may go by now
 returns-2 : tie.Need-returns-2
 unfolding commandNumber canActivate
 returns-2 c g =
-    let test = c .before .before in
+    let asked = c .before .before in
+    let test = asked .before in
     let s = start-1 test in
     let b = bus-of s in
-    let out = sym (allows (c .before) g) ∙ not-true _ (c .if2 .taken) in
-    carried b _ (drive-nothing b (none-due test) (and-fails-left _ _ (and-fails-left (offsetAllows (s .args .timing) (s .args .at .elided) (s .args .at .cycle)) (ltb (goesAt b) (lengthOf (queues-of s) (s .args .at .owner))) out))) _ refl
+    let offset = offsetAllows (s .args .timing) (s .args .at .elided) (s .args .at .cycle) in
+    let goes = ltb (goesAt b) (lengthOf (queues-of s) (s .args .at .owner)) in
+    let cannot : canActivate b ≡ false =
+    ⊎-elim
+    (λ out. and-fails-left offset goes (sym (allows asked g) ∙ not-true _ out))
+    (λ early. and-fails-right offset goes (resting b (s .args .at .rest) (g .rests) (ltb-true _ _ early)))
+    (or-cases _ _ (c .if2 .taken))
+    in
+    carried b _ (drive-nothing b (none-due test) cannot) _ refl (g .rests)
 
-mul-if3 : tie.Need-mul-if3
-mul-if3 c = search needs
+mul-head : tie.Need-mul-head
+mul-head c = search needs
 
-element-copy-out-if3 : tie.Need-element-copy-out-if3
-element-copy-out-if3 c = search needs
+element-copy-out-head : tie.Need-element-copy-out-head
+element-copy-out-head c = search needs
 
--- no request of what is read as the owner waits
-none-wait : (c : tie.Then3) → getD (start-2 (c .before .before .before) .args .lengths .now) (start-2 (c .before .before .before) .args .at .owner % 16) 0 ≤ 0
-none-wait c = omega (arith, c .if3 .taken)
+mul-length : tie.Need-mul-length
+mul-length c = search needs
 
+element-copy-out-length : tie.Need-element-copy-out-length
+element-copy-out-length c = search needs
+
+mul-goes-at : tie.Need-mul-goes-at
+mul-goes-at c = search needs
+
+element-copy-out-goes-at : tie.Need-element-copy-out-goes-at
+element-copy-out-goes-at c = search needs
+
+goes-at-requires : tie.Need-goes-at-requires
+goes-at-requires c κs = omega arith
+
+-- none may go
 returns-3 : tie.Need-returns-3
-unfolding commandNumber canActivate goesAt lengthOf
-returns-3 c g =
-    let test = c .before .before .before in
-    let s = start-2 test in
-    let b = bus-of s in
-    let out = le-ltb (goesAt b) (lengthOf (queues-of s) (s .args .at .owner)) (rw (owner-is s g) at (none-wait c)) in
-    carried b _ (drive-nothing b (none-due (test .before .before)) (and-fails-left _ _ (and-fails-right (offsetAllows (s .args .timing) (s .args .at .elided) (s .args .at .cycle)) (ltb (goesAt b) (lengthOf (queues-of s) (s .args .at .owner))) out))) _ refl
-
-head-of-requires : tie.Need-head-of-requires
-head-of-requires c κs = search needs
-
-bank-of-requires : tie.Need-bank-of-requires
-bank-of-requires c κs = search needs
-
-cast-bank : tie.Need-cast-bank
-cast-bank c = search needs
-
-mul-gaps-met : tie.Need-mul-gaps-met
-mul-gaps-met c = search needs
-
-element-copy-out-gaps-met : tie.Need-element-copy-out-gaps-met
-element-copy-out-gaps-met c = search needs
-
-kind-of-requires : tie.Need-kind-of-requires
-kind-of-requires c κs = search needs
-
-gaps-met-requires : tie.Need-gaps-met-requires
-gaps-met-requires c κs = search needs
-
-returns-4 : tie.Need-returns-4
 unfolding commandNumber canActivate
-returns-4 c g =
-    let s = start-gaps (c .before) in
+returns-3 c g =
+    let at = c .before in
+    let s = start-of at in
     let b = bus-of s in
-    let test = at-head (c .before) .before .before in
-    let none = none-due (else1-of-else3 test) in
-    let ready = offsetAllows (s .args .timing) (s .args .at .elided) (s .args .at .cycle) && ltb (goesAt b) (lengthOf (queues-of s) (s .args .at .owner)) in
-    carried b _ (drive-nothing b none (and-fails-right ready (gapsMet (s .args .timing) (b .flight) (going b) (s .args .at .cycle)) (gaps-are (c .before) g ∙ not-true _ (c .if4 .taken)))) _ refl
+    let none = le-ltb (goesAt b) (lengthOf (queues-of s) (s .args .at .owner)) (omega (arith, place-is at g, length-is s g, c .if3 .taken)) in
+    carried b _ (drive-nothing b (none-due (else1-of at)) (and-fails-right (offsetAllows (s .args .timing) (s .args .at .elided) (s .args .at .cycle)) (ltb (goesAt b) (lengthOf (queues-of s) (s .args .at .owner))) none)) _ refl (rests-from at g)
 
+waiting-at-requires : tie.Need-waiting-at-requires
+waiting-at-requires c κs = omega arith
+
+-- a request is found only where one waits, and another than the oldest only where fewer than may have passed that
 dequeue-requires : tie.Need-dequeue-requires
-dequeue-requires c κs = (omega arith, some-wait (at-head (c .before .before .before) .before .before))
+dequeue-requires c κs =
+    let found = c .before .before .before .before .before .before in
+    let place = found .before in
+    (omega arith, omega (arith, found .if3 .left), place .goes-at .ensures .1 .1 (found .if3 .left))
 
 activate-requires : tie.Need-activate-requires
 activate-requires c κs = search needs
 
-returns-5 : tie.Need-returns-5
-unfolding commandNumber canActivate dequeue headOf lengthOf
-returns-5 c g =
+returns-4 : tie.Need-returns-4
+unfolding commandNumber canActivate going headOf waitingAt
+returns-4 c g =
     let removed = c .before .before .before .before .dequeue .ensures in
-    let go = c .before .before .before .before .before .before .before in
-    let gaps = go .before in
-    let s = start-gaps gaps in
+    let read = c .before .before .before .before .before .before .before .before .before in
+    let found = read .before .before in
+    let at = found .before in
+    let s = start-of at in
     let a = s .args in
     let b = bus-of s in
-    let head = at-head gaps in
-    let test = head .before .before in
-    let can : canActivate b ≡ true =
-    and-both (and-both (sym (allows (else2-of-else3 test .before) g) ∙ not-not _ (else2-of-else3 test .if2 .left)) (lt-ltb (goesAt b) (lengthOf (queues-of s) (a .at .owner)) (waits test g))) (gaps-are gaps g ∙ not-not _ (go .if4 .left))
-    in
-    let e = drive-activate b (none-due (else1-of-else3 test)) can in
-    let word = word-is head g in
+    let place = place-is at g in
     let owner = owner-is s g in
-    let taken : ℕ → ℕ → Queues = λ k l. queuesOf (a .slots .now) (set (a .heads .now) k ((getD (a .heads .now) k 0 + 1) % 8)) (set (a .lengths .now) l (getD (a .lengths .now) l 0 - 1)) in
-    let request = sound head g in
+    let waits : goesAt b < lengthOf (queues-of s) (a .at .owner) = omega (arith, place, length-is s g, found .if3 .left) in
+    let asked = else2-of at in
+    let allowed = sym (allows (asked .before .before) g) ∙ not-not _ (false-unless _ (λ t. not-both (or-left _ _ t) (asked .if2 .left))) in
+    let e = drive-activate b (none-due (else1-of at)) (and-both allowed (lt-ltb (goesAt b) (lengthOf (queues-of s) (a .at .owner)) waits)) in
+    let word : read .waiting-at .result ≡ going b =
+    read .waiting-at .ensures ∙ ap₂ (λ (o k : ℕ). getD (a .slots .now) (place-of o (getD (a .heads .now) o 0) k) 0) owner place
+    in
+    let request : SoundRequest (read .waiting-at .result) = subst SoundRequest (sym word) (g .ready .sound (goesAt b) waits) in
     let offer = subst (λ (w : ℕ). isOffer w ≡ true) word (request .offer) in
-    let right = carried b _ e (record { command = going b; last = 0 }) (sym (word-back (going b) offer)) in
+    let right = carried b _ e (record { command = going b; last = 0; rest = 0 }) (sym (word-back (going b) offer)) (λ t early. absurd (not-suc-le-zero early)) in
     record {
       command = word ∙ right .command;
-      queues-are = ap₂ (queuesOf (a .slots .now)) (removed .0) (removed .1) ∙ ap₂ taken owner owner ∙ right .queues-are;
+      queues-are = removed ∙ ap₂ (dequeue (queues-of s)) owner place ∙ right .queues-are;
       flight-is = c .activate .ensures (g .ready .ticks-left, request .bank, request .kind)
           ∙ ap (λ (w : ℕ). activated (a .timing) (a .columns .now) (a .responses .now) (a .banks .now) w (a .at .cycle)) word
           ∙ right .flight-is;
+      rests = right .rests;
     }
 
 pub drive-spec : {M : Type 1} → statement M
@@ -262,18 +276,18 @@ drive-spec =
     wrapping-add-u32-requires
     returns
     offset-allows-requires
+    cast-if2
+    add-if2
     returns-2
-    mul-if3
-    element-copy-out-if3
+    mul-head
+    element-copy-out-head
+    mul-length
+    element-copy-out-length
+    mul-goes-at
+    element-copy-out-goes-at
+    goes-at-requires
     returns-3
-    head-of-requires
-    bank-of-requires
-    cast-bank
-    mul-gaps-met
-    element-copy-out-gaps-met
-    kind-of-requires
-    gaps-met-requires
-    returns-4
+    waiting-at-requires
     dequeue-requires
     activate-requires
-    returns-5)
+    returns-4)

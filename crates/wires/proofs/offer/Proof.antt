@@ -40,21 +40,21 @@ class-fits-requires c κs = search needs
 
 returns : tie.Need-returns
 unfolding offerStatus
-returns c = (λ classes. rw (sym (c .before .class-fits .ensures) ∙ not-true _ (c .if1 .taken)), refl)
+returns c = (λ classes. rw (sym (c .before .class-fits .ensures) ∙ not-true _ (c .if1 .taken)), λ passed. refl)
 
 cast-class : tie.Need-cast-class
 cast-class c = search needs
 
 -- no such class comes so far, where classes are small
 returns-2 : tie.Need-returns-2
-returns-2 c = (λ classes. absurd (omega (arith, small (c .before .before) classes, c .if2 .taken)), refl)
+returns-2 c = (λ classes. absurd (omega (arith, small (c .before .before) classes, c .if2 .taken)), λ passed. refl)
 
 bank-and-kind-fit-requires : tie.Need-bank-and-kind-fit-requires
 bank-and-kind-fit-requires c κs = search needs
 
 returns-3 : tie.Need-returns-3
 unfolding offerStatus
-returns-3 c = (λ classes. rw (fits (else1-of-else2 (c .before .before)), sym (c .before .bank-and-kind-fit .ensures) ∙ not-true _ (c .if3 .taken)), refl)
+returns-3 c = (λ classes. rw (fits (else1-of-else2 (c .before .before)), sym (c .before .bank-and-kind-fit .ensures) ∙ not-true _ (c .if3 .taken)), λ passed. refl)
 
 mul-if4 : tie.Need-mul-if4
 mul-if4 c = search needs
@@ -66,7 +66,7 @@ returns-4 : tie.Need-returns-4
 unfolding offerStatus
 returns-4 c =
     let else3 = c .before .before in
-    (λ classes. rw (fits (else1-of-else3 else3), right else3, le-ltb _ 8 (c .if4 .taken)), refl)
+    (λ classes. rw (fits (else1-of-else3 else3), right else3, le-ltb _ 8 (c .if4 .taken)), λ passed. refl)
 
 enqueue-requires : tie.Need-enqueue-requires
 enqueue-requires c κs = search needs

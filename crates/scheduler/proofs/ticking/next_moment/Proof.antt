@@ -4,8 +4,8 @@ use borrow.Author.Needs.{needs}
 use Rattle.scheduler.proofs.ticking.next_moment.Statement.{statement}
 use Rattle.scheduler.proofs.ticking.next_moment.Tie as tie
 
-add-t6 : tie.Need-add-t6
-add-t6 c = search needs
+add-t7 : tie.Need-add-t7
+add-t7 c = search needs
 
 next-offset-requires : tie.Need-next-offset-requires
 next-offset-requires c κs = search needs
@@ -17,6 +17,6 @@ pub next-moment-spec : {M : Type 1} → statement M
 next-moment-spec =
     tie.close
     (tie.spec
-    add-t6
+    add-t7
     next-offset-requires
     returns)

@@ -1,23 +1,29 @@
 -- `scheduler::ticking::tick_in_place` meets its contract: the turns, the wires and the response are those of the definition, one after the other.
 -- Assumes nothing.
 use mathlib.Core.Path.{_≡_, refl, sym, ap, ap₂, _∙_, subst}
+use mathlib.Core.Logic.{⊎-elim}
+use mathlib.Core.Bool.{Bool, cond}
 use mathlib.Core.List.{List}
-use Prim.Native.Nat.{ℕ, _+_, _<_}
+use Prim.Native.Nat.{ℕ, _+_, _%_, _<_}
 use borrow.Author.Needs.{needs}
+use lib.Dec.{eqb}
+use Rattle.basics.proofs.Truth.{either, on-false}
 use Rattle.policy.proofs.Laws.{policy-laws}
 use Rattle.requests.specs.Word.{commandNumber}
 use Rattle.flight.specs.Flight.{dueAt, flightOf}
 use Rattle.queues.specs.Waiting.{queuesOf}
-use Rattle.rules.specs.Step.{TurnStart, turnsAt, Driven, Bus, drive, answered}
+use Rattle.rules.specs.Wire.{gapsMet}
+use Rattle.rules.specs.Step.{turnStarts, TurnStart, turnsAt, Driven, Bus, mayGo, drive, answered}
 use Rattle.rules.specs.Call.{busAt, afterTick}
 use Rattle.rules.specs.Calls.{Answer}
 use Rattle.scheduler.specs.InPlace.{stateOf, startOf}
 use Rattle.queues.specs.declared.Queues.{Queues}
 use Rattle.flight.specs.declared.Flight.{Flight}
 use Rattle.state.specs.declared.State.{State}
-use Rattle.wires.specs.InPlace.{Carried}
+use Rattle.wires.specs.InPlace.{Rests, leftBy, Carried}
 use Rattle.rules.proofs.Step.{turn-owner}
 use Rattle.rules.proofs.Range.{Ranged, ranged, BusRange, bus-range, ready}
+use Rattle.scheduler.proofs.InPlace.{nothing-known}
 use Rattle.scheduler.proofs.ticking.tick_in_place.Statement.{statement}
 use Rattle.scheduler.proofs.ticking.tick_in_place.Tie as tie
 
@@ -26,8 +32,11 @@ use Rattle.scheduler.proofs.ticking.tick_in_place.Tie as tie
 abbrev start-turned : tie.After-turns-at → tie.Start
 start-turned c = c .before .before .before .before .before
 
+abbrev at-rest : tie.After-drive → tie.After-rest-of
+at-rest c = c .before .before .before .before .before .before .before .before
+
 abbrev at-turned : tie.After-drive → tie.After-turns-at
-at-turned c = c .before .before .before .before .before .before
+at-turned c = at-rest c .before
 
 abbrev start-driven : tie.After-drive → tie.Start
 start-driven c = start-turned (at-turned c)
@@ -35,7 +44,7 @@ start-driven c = start-turned (at-turned c)
 -- ---- the state before, and what each step left
 
 abbrev given : tie.Start → State
-given s = stateOf (s .args .m) (s .args .slots .now) (s .args .heads .now) (s .args .lengths .now) (s .args .left .now) (s .args .pointers .now) (s .args .columns .now) (s .args .responses .now) (s .args .banks .now)
+given s = stateOf (s .args .m) (s .args .slots .now) (s .args .heads .now) (s .args .lengths .now) (s .args .passed .now) (s .args .left .now) (s .args .pointers .now) (s .args .columns .now) (s .args .responses .now) (s .args .banks .now)
 
 fit : (s : tie.Start) → Ranged (s .args .p) (given s)
 fit s = ranged (s .args .p) (given s) (s .pre .0 .ranges)
@@ -72,17 +81,36 @@ driven-right : (c : tie.After-drive) → drive (bus (at-turned c)) ≡ right-dri
 driven-right c = let s = start-driven c in ap (λ (t : TurnStart). drive (busAt (s .args .p) (given s) (t .turns))) (turned-right (at-turned c))
 
 abbrev queues-driven : tie.After-drive → Queues
-queues-driven c = queuesOf (start-driven c .args .slots .now) (c .drive .last .1 .1 .1 .0) (c .drive .last .1 .1 .1 .1 .0)
+queues-driven c = queuesOf (c .drive .last .1 .1 .0) (c .drive .last .1 .1 .1 .0) (c .drive .last .1 .1 .1 .1 .0) (c .drive .last .1 .1 .1 .1 .1 .0)
 
 abbrev flight-driven : tie.After-drive → Flight
-flight-driven c = flightOf (c .drive .last .1 .1 .1 .1 .1 .0) (c .drive .last .1 .1 .1 .1 .1 .1 .0) (c .drive .last .1 .1 .1 .1 .1 .1 .1 .0) (c .drive .result .last)
+flight-driven c = flightOf (c .drive .last .1 .1 .1 .1 .1 .1 .0) (c .drive .last .1 .1 .1 .1 .1 .1 .1 .0) (c .drive .last .1 .1 .1 .1 .1 .1 .1 .1 .0) (c .drive .result .last)
+
+-- before the tick that goes along none of this turn's owner's requests may go: where the turn starts it is 0, and where it goes on the turns are what they were
+rests-given : (c : tie.After-drive) → Rests (bus (at-turned c)) (at-rest c .rest-of .result)
+unfolding turnsAt turnStarts
+rests-given c =
+    let at = at-turned c in
+    let s = start-driven c in
+    let p = s .args .p in
+    let offset = s .args .m .offset in
+    let rest = s .args .m .rest in
+    let result = at-rest c .rest-of .ensures in
+    let starts = eqb (s .args .m .cycle % p .timing .turn) 0 in
+    ⊎-elim
+    (λ start. nothing-known (bus at) (at-rest c .rest-of .result) (result ∙ ap (λ (b : Bool). cond b 0 rest) start))
+    (λ goes-on.
+    let same : at-rest c .rest-of .result ≡ rest = result ∙ ap (λ (b : Bool). cond b 0 rest) goes-on in
+    let stays : turned at ≡ record { turns = given s .turns; shown = 0 } = turned-right at ∙ on-false starts _ _ (ap (λ (k : ℕ). eqb k 0) (sym (s .pre .0 .in-step)) ∙ goes-on) in
+    subst (Rests (bus at)) (sym same) (subst (λ (x : TurnStart). Rests (busAt p (given s) (x .turns)) rest) (sym stays) (s .pre .0 .rests)))
+    (either (eqb offset 0))
 
 -- what the second step in place promises of it
 promised : (c : tie.After-drive) → Carried (bus (at-turned c)) (c .drive .result) (queues-driven c) (flight-driven c)
 promised c =
     let at = at-turned c in
     let s = start-turned at in
-    c .drive .ensures (record { ready = ready (s .args .p .classes) (bus at) (bus-fit at) (s .pre .1); in-step = s .pre .0 .in-step })
+    c .drive .ensures (record { ready = ready (s .args .p .classes) (bus at) (bus-fit at) (s .pre .1); in-step = s .pre .0 .in-step; rests = rests-given c })
 
 flight-right : (c : tie.After-drive) → flight-driven c ≡ right-drive (start-driven c) .flight
 flight-right c = promised c .flight-is ∙ ap (λ (d : Driven). d .flight) (driven-right c)
@@ -109,6 +137,9 @@ turns-at-requires c κs =
     let s = c .before .before .before .before in
     (s .pre .0 .lent, s .pre .0 .in-step, s .pre .1, fit s .turns .left-within .sixteen, fit s .turns .pointers-fit .sixteen)
 
+rest-of-requires : tie.Need-rest-of-requires
+rest-of-requires c κs = search needs
+
 drive-requires : tie.Need-drive-requires
 drive-requires c κs = search needs
 
@@ -121,7 +152,7 @@ next-moment-requires c κs =
     (policy-laws (s .args .p) (fit s .fit) .timed, s .pre .0 .in-step, s .pre .1)
 
 returns : tie.Need-returns
-unfolding afterTick answered
+unfolding afterTick answered mayGo gapsMet
 returns c =
     let at = c .before .before .before in
     let s = start-driven at in
@@ -135,10 +166,13 @@ returns c =
           (ap (responded (flight-driven at)) (sent .1) ∙ ap (answered t) (flight-right at))
           (promised at .command ∙ ap (λ (x : Driven). commandNumber (x .wires)) (driven-right at))
           (sent .0 ∙ ap (λ (f : Flight). dueAt (f .responses) t) (flight-right at)),
-      record { in-step = refl; same-bottom = refl; same-free = refl; same-count = refl },
+      (
+        record { in-step = refl; same-bottom = refl; same-free = refl; same-count = refl },
+        subst (λ (x : TurnStart). Rests (leftBy (busAt (s .args .p) (given s) (x .turns))) (at .drive .result .rest)) (turned-right (at-turned at)) (promised at .rests),
+      ),
     )
 
 pub tick-in-place-spec : {M : Type 1} → statement M
 tick-in-place-spec =
     tie.close
-    (tie.spec turns-at-requires drive-requires take-due-requires next-moment-requires returns)
+    (tie.spec turns-at-requires rest-of-requires drive-requires take-due-requires next-moment-requires returns)

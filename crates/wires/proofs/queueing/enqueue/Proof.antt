@@ -44,7 +44,7 @@ element-write-lengths c = search needs
 
 returns : tie.Need-returns
 unfolding enqueue headOf lengthOf
-returns c =
+returns c passed =
     let s = c .before .before .before in
     let class = s .args .class in
     let head = getD (s .args .heads .now) class 0 in

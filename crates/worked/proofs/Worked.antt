@@ -30,7 +30,7 @@ use Rattle.flight.specs.Flight.{dueAt, activateAt, activateNext, activateKind, 
 use Rattle.rules.specs.Queue.{enqueue, closedUp, passedAfter, dequeue, offerStatus, queuesAfter}
 use Rattle.rules.specs.Traversal.{firstClass, candidates, moved, movedPointer, passedAt, named, takesBy, takes, endsAt, tryClass, charge, takesHome, leftTried, charged}
 use Rattle.rules.specs.Lookahead.{goesOn, reaches, aheadOf, nextLeft, elides}
-use Rattle.rules.specs.Wire.{gapMet, gapsMetBy, gapsMet, offsetAllows, activated}
+use Rattle.rules.specs.Wire.{opensAt, gapMet, gapsMetBy, gapsMet, offsetAllows, activated}
 use Rattle.rules.specs.Step.{turnStarts, turnNumber, leftAtStart, ownedBy, startTurn, turnsAt, turnWord, mayGo, goesAt, going, canActivate, drive, answered}
 use Rattle.state.specs.Fresh.{zeros, emptyQueues, nothingInFlight, stateAtStart, freshState}
 use Rattle.state.specs.Range.{inRange as stateRange}
@@ -122,7 +122,7 @@ at-right p s (w ∷ ws) t e =
     (either now)
 
 log-computed : Policy → List ℕ → List ℕ
-unfolding policy-computed plain plain-log ticks reads callOf isOffer requestOf wordOf classOf kindOf bankOf tagOf columnNumber commandNumber classFits bankAndKindFit offerOn offerStatus queuesAfter enqueue dequeue headOf lengthOf place waitingAt passedOf closedUp passedAfter freshState stateAtStart emptyQueues nothingInFlight zeros silent afterTick tickOn turnsAt turnStarts turnNumber turnWord mayGo goesAt going canActivate drive answered dueAt sentAt activateAt activateNext activateKind gapMet gapsMetBy gapsMet offsetAllows activated first count size nth moved movedPointer named takesBy takes passedAt endsAt tryClass charge goesOn reaches nextLeft firstClass elides leftAtStart ownedBy startTurn least leastIn flowsIn leastAt every member freeTurns homeTurnIn homePlace minimumsBelow homeAt minimumsSum homeTurn homeClass flows takesHome leftTried charged
+unfolding policy-computed plain plain-log ticks reads callOf isOffer requestOf wordOf classOf kindOf bankOf tagOf columnNumber commandNumber classFits bankAndKindFit offerOn offerStatus queuesAfter enqueue dequeue headOf lengthOf place waitingAt passedOf closedUp passedAfter freshState stateAtStart emptyQueues nothingInFlight zeros silent afterTick tickOn turnsAt turnStarts turnNumber turnWord mayGo goesAt going canActivate drive answered dueAt sentAt activateAt activateNext activateKind opensAt gapMet gapsMetBy gapsMet offsetAllows activated first count size nth moved movedPointer named takesBy takes passedAt endsAt tryClass charge goesOn reaches nextLeft firstClass elides leftAtStart ownedBy startTurn least leastIn flowsIn leastAt every member freeTurns homeTurnIn homePlace minimumsBelow homeAt minimumsSum homeTurn homeClass flows takesHome leftTried charged
 log-computed p ws = plain-log p (freshState p) ws
 
 -- every state reached from the fresh one of a policy in range is in range

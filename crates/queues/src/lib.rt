@@ -46,7 +46,7 @@ fn right_word(classes: usize, class: usize, word: u32) -> bool
 }
 
 // Every waiting request of a class is right.
-fn ring_in_range(classes: usize, slots: &Slots, class: usize, head: usize, length: usize) -> bool
+fn words_in_range(classes: usize, slots: &Slots, class: usize, head: usize, length: usize) -> bool
     requires { ⌜ (class < 16) × (head < ringPlaces) ⌝ }
     ensures { λ r. ⌜ r
         ≡ every ringPlaces (λ k. leb length k || rightWord classes class (getD (now (slots .entry)) (place class head k) 0)) ⌝ }
@@ -62,7 +62,7 @@ fn ring_in_range(classes: usize, slots: &Slots, class: usize, head: usize, lengt
     true
 }
 
-fn queue_in_range(classes: usize, slots: &Slots, class: usize, head: usize, length: usize) -> bool
+fn ring_in_range(classes: usize, slots: &Slots, class: usize, head: usize, length: usize) -> bool
     requires { ⌜ class < 16 ⌝ }
     ensures { λ r. ⌜ r ≡ ringInRange classes (now (slots .entry)) class head length ⌝ }
 {
@@ -72,7 +72,7 @@ fn queue_in_range(classes: usize, slots: &Slots, class: usize, head: usize, leng
     if RING_PLACES <= head {
         return false;
     }
-    ring_in_range(classes, slots, class, head, length)
+    words_in_range(classes, slots, class, head, length)
 }
 
 // Every class's queue is in range, and no more have passed its oldest than may.
@@ -88,7 +88,7 @@ pub fn queues_in_range(
 {
     let mut class = 0;
     while class < 16 {
-        let fits = queue_in_range(classes, slots, class, heads[class], lengths[class]);
+        let fits = ring_in_range(classes, slots, class, heads[class], lengths[class]);
         if !(fits & (passed[class] <= MOST_PASSED)) {
             return false;
         }

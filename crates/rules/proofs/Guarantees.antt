@@ -1,6 +1,6 @@
 -- W-202's promises, and W-209's, hold of every policy in range. A class with a request waiting owns its home turns, and a traversal comes to a class in no more turns of an epoch than its cap: so the plan's counts bound the turns that a class
 -- owns from below and from above. A least class that always waits owns every turn but the home turns above it, so it meets the bound from above. A class's requests go in its own turns alone, so what waits still waits at its next home
--- turn, which is at most an epoch away. And in a turn of its own, dead time less one after the start, nothing holds the head back any more: no gap is longer, and no earlier column command is due so late.
+-- turn, which is at most an epoch away. And in a turn of its own, dead time less one after the start, nothing holds the oldest back any more: no gap is longer, and no earlier column command is due so late.
 -- Assumes nothing.
 use mathlib.Core.Path.{_≡_, refl, sym, ap, _∙_, subst}
 use mathlib.Core.Logic.{_⊎_, inl, inr, ⊎-elim}
@@ -129,7 +129,7 @@ module _ (p : Policy) (given : policyInRange p ≡ true) where
         let before : (j : ℕ) → k ≤ j → j < o .turn → owns p ws c j ≡ false =
         λ j from under. ⊎-elim (λ same. subst (λ (x : ℕ). owns p ws c x ≡ false) same other) (λ later. o .first j (omega (arith, later)) under) (eq-or-lt-of-le from)
         in
-        record { turn = o .turn; not-before = omega (arith, o .not-before); within = omega (arith, o .within); own = o .own; first = before; waits = o .waits; same-head = o .same-head ∙ grown .head waits }
+        record { turn = o .turn; not-before = omega (arith, o .not-before); within = omega (arith, o .within); own = o .own; first = before; waits = o .waits; same-oldest = o .same-oldest ∙ grown .oldest waits }
 
     -- at its home turn at the latest
     until-home : (c d k : ℕ) → Started p ws (k + d) → homeTurn p (k + d) ≡ true → homeClass p (k + d) ≡ c → Waits p ws k c → OwnTurn p ws k (d + 1) c
@@ -138,12 +138,12 @@ module _ (p : Policy) (given : policyInRange p ≡ true) where
         let begins = subst (Started p ws) here l in
         let is : homeTurn p k ≡ true = subst (λ (j : ℕ). homeTurn p j ≡ true) here home in
         let same : homeClass p k ≡ c = subst (λ (j : ℕ). homeClass p j ≡ c) here its in
-        record { turn = k; not-before = le-refl k; within = omega arith; own = list.owns-at-home p given ws k c begins is same waits; first = none-before c k; waits = waits; same-head = refl }
+        record { turn = k; not-before = le-refl k; within = omega arith; own = list.owns-at-home p given ws k c begins is same waits; first = none-before c k; waits = waits; same-oldest = refl }
     until-home c (suc d) k l home its waits =
         let next : k + suc d ≡ k + 1 + d = omega arith in
         ⊎-elim
         (λ e.
-        record { turn = k; not-before = le-refl k; within = omega arith; own = list.owning p given ws k c (list.earlier p given ws k (k + suc d) (omega arith) l) (eqb-true (owner k) c e); first = none-before c k; waits = waits; same-head = refl })
+        record { turn = k; not-before = le-refl k; within = omega arith; own = list.owning p given ws k c (list.earlier p given ws k (k + suc d) (omega arith) l) (eqb-true (owner k) c e); first = none-before c k; waits = waits; same-oldest = refl })
         (λ e.
         let grown = list.over-a-turn p given ws k c (eqb-false (owner k) c e) (list.earlier p given ws (k + 1) (k + suc d) (omega arith) l) in
         let still : Waits p ws (k + 1) c = λ none. waits (omega (arith, grown .longer, none)) in
@@ -156,7 +156,7 @@ module _ (p : Policy) (given : policyInRange p ≡ true) where
     within k c class some waits l =
         let h = policy-laws p given .homes .comes-round k c class some in
         let own = until-home c (h .0) k (list.earlier p given ws (k + h .0) (k + (p .epoch - 1)) (omega (arith, h .1)) l) (h .2) (h .3) waits in
-        record { turn = own .turn; not-before = own .not-before; within = omega (arith, own .within, h .1); own = own .own; first = own .first; waits = own .waits; same-head = own .same-head }
+        record { turn = own .turn; not-before = own .not-before; within = omega (arith, own .within, h .1); own = own .own; first = own .first; waits = own .waits; same-oldest = own .same-oldest }
 
     -- ---- a request goes
 
@@ -305,19 +305,19 @@ module _ (p : Policy) (given : policyInRange p ≡ true) where
             let none : eqb (dueColumn bus) 0 ≡ true = eq-eqb (dueColumn bus) 0 (ap (dueAt (s .flight .columns)) cycle ∙ still .clear) in
             let waiting = lengthOf (s .queues) (turns .owner) in
             let some-waits : 0 < waiting = subst (λ (x : ℕ). 0 < lengthOf (s .queues) x) (sym has) (lt-of-le-ne zero-le (λ z. still .waiting (sym z))) in
-            let head = waitingAt (s .queues) (turns .owner) 0 in
+            let oldest = waitingAt (s .queues) (turns .owner) 0 in
             let word = waiting-sound (p .classes) bus sound 0 some-waits in
-            let kind = sound-kind (p .classes) head word in
-            let bank = sound-bank (p .classes) head word in
-            let of-bank = getD (s .flight .banks) (bankOf head) 0 in
+            let kind = sound-kind (p .classes) oldest word in
+            let bank = sound-bank (p .classes) oldest word in
+            let of-bank = getD (s .flight .banks) (bankOf oldest) 0 in
             let met : (last gap : ℕ) → gap ≤ dead → gapMet last dead latest ≡ true → gapMet last gap (s .cycle) ≡ true =
             λ last gap short rests. gap-shift last dead gap latest (s .cycle) (omega (arith, short, cycle)) rests
             in
-            let number : 2 * activateKind (s .flight .last) + kindOf head < 4 = omega (arith, kind, kind-small (s .flight .last)) in
+            let number : 2 * activateKind (s .flight .last) + kindOf oldest < 4 = omega (arith, kind, kind-small (s .flight .last)) in
             let gaps =
             and-both
-            (met (s .flight .last) (getD (p .timing .gaps) (2 * activateKind (s .flight .last) + kindOf head) 0) (timed .gaps-bounds (2 * activateKind (s .flight .last) + kindOf head) number .1) (still .rested .of-all))
-            (met of-bank (getD (p .timing .bank) (activateKind of-bank) 0) (timed .bank-bounds (activateKind of-bank) (kind-small of-bank) .1) (still .rested .of-bank (bankOf head) bank))
+            (met (s .flight .last) (getD (p .timing .gaps) (2 * activateKind (s .flight .last) + kindOf oldest) 0) (timed .gaps-bounds (2 * activateKind (s .flight .last) + kindOf oldest) number .1) (still .rested .of-all))
+            (met of-bank (getD (p .timing .bank) (activateKind of-bank) 0) (timed .bank-bounds (activateKind of-bank) (kind-small of-bank) .1) (still .rested .of-bank (bankOf oldest) bank))
             in
             let offset : s .cycle % turn ≡ dead - 1 = ap (λ (x : ℕ). x % turn) cycle ∙ mul-add-mod-self-right k turn (dead - 1) ∙ mod-eq-of-lt (omega (arith, timed .dead-below-turn)) in
             let allowed = or-right (turns .elided) (ltb (s .cycle % turn) (turn - dead)) (lt-ltb (s .cycle % turn) (turn - dead) (omega (arith, offset, twice, timed .dead-bounds .0))) in

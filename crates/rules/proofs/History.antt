@@ -17,7 +17,7 @@ use Rattle.requests.specs.Sizes.{lastCycle}
 use Rattle.requests.specs.Word.{classOf, kindOf, soundWord}
 use Rattle.queues.specs.Waiting.{lengthOf, rightWord}
 use Rattle.rules.specs.Lookahead.{elides}
-use Rattle.rules.specs.Wire.{gapMet, offsetAllows, gapsMet}
+use Rattle.rules.specs.Wire.{gapMet, offsetAllows}
 use Rattle.rules.specs.Step.{turnStarts, turnNumber, TurnStart, ownedBy, startTurn, turnsAt, Bus, goesAt, going, canActivate, drive, answered}
 use Rattle.state.specs.Fresh.{nothingInFlight, stateAtStart, freshState}
 use Rattle.state.specs.Range.{inRange}
@@ -163,15 +163,15 @@ module _ (p : Policy) (given : policyInRange p ≡ true) where
     sound e = right-sound (p .classes) (turns .owner) (going bus) (right e)
 
     -- what is activated is the owner's
-    head-flows : goes → flows p (classOf (going bus)) (turns .owner) ≡ true
-    head-flows e =
+    going-flows : goes → flows p (classOf (going bus)) (turns .owner) ≡ true
+    going-flows e =
         subst (λ (c : ℕ). flows p c (turns .owner) ≡ true) (sym (right-class (p .classes) (turns .owner) (going bus) (right e)))
         (policy-laws p given .order .reflexive (turns .owner) owner-class)
 
     -- and where the dead time is kept, it is activated that long before the next turn
-    head-far : turns .elided ≡ false → goes → dead ≤ untilTurn p (t + 1)
+    going-far : turns .elided ≡ false → goes → dead ≤ untilTurn p (t + 1)
     unfolding canActivate offsetAllows
-    head-far kept e =
+    going-far kept e =
         let gate = and-left (offsetAllows (p .timing) (turns .elided) t) (ltb (goesAt bus) (lengthOf (s .queues) (turns .owner))) e in
         ⊎-elim
         (λ x. absurd (not-both x kept))
@@ -190,21 +190,21 @@ module _ (p : Policy) (given : policyInRange p ≡ true) where
         }
 
     next-flowing : InFlight (Flowing (turns .owner)) (t + 1) flight
-    next-flowing = in-flight-next (Flowing (turns .owner)) (Flowing (turns .owner)) (λ d x f. f) (λ e d same. head-flows e) (λ e d same. head-flows e) (midway .flowing)
+    next-flowing = in-flight-next (Flowing (turns .owner)) (Flowing (turns .owner)) (λ d x f. f) (λ e d same. going-flows e) (λ e d same. going-flows e) (midway .flowing)
 
     next-drained : turns .elided ≡ false → InFlight (λ d x. d < untilTurn p (t + 1)) (t + 1) flight
     next-drained kept =
         let laws = policy-laws p given .timed in
         in-flight-next (λ d x. d < untilTurn p (t + 1) + 1) (λ d x. d < untilTurn p (t + 1)) (λ d x l. omega (arith, l))
-        (λ e d same. omega (arith, same, head-far kept e, laws .column-bounds .1, laws .response-bounds .1))
-        (λ e d same. omega (arith, same, head-far kept e, laws .response-bounds .1))
+        (λ e d same. omega (arith, same, going-far kept e, laws .column-bounds .1, laws .response-bounds .1))
+        (λ e d same. omega (arith, same, going-far kept e, laws .response-bounds .1))
         (midway .drained kept)
 
     next-rested : turns .elided ≡ false → Activates (λ last. gapMet last dead (t + 1 + untilTurn p (t + 1)) ≡ true) flight
     next-rested kept =
         let met : ℕ → Type 0 = λ last. gapMet last dead (t + 1 + untilTurn p (t + 1)) ≡ true in
         activates-next bus met met (λ x m. m) (w .flight .banks-long)
-        (λ e. (sound-bank (p .classes) (going bus) (sound e), gap-new (kindOf (going bus)) dead t (t + 1 + untilTurn p (t + 1)) (sound-kind (p .classes) (going bus) (sound e)) (omega (arith, head-far kept e))))
+        (λ e. (sound-bank (p .classes) (going bus) (sound e), gap-new (kindOf (going bus)) dead t (t + 1 + untilTurn p (t + 1)) (sound-kind (p .classes) (going bus) (sound e)) (omega (arith, going-far kept e))))
         (midway .rested kept)
 
     tick-held : t < lastCycle → inRange p (afterTick p s .state) ≡ true → Held p (afterTick p s .state)

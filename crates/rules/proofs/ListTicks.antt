@@ -36,19 +36,19 @@ use Rattle.rules.proofs.Calls.{answered-in-range, after-in-range}
 
 -- ---- queues that grow at their ends
 
--- the class has no fewer requests waiting, and if it had some its head is the same
+-- the class has no fewer requests waiting, and if it had some its oldest is the same
 pub record Grown (q r : Queues) (c : ℕ) : Type 0 where
   pub longer : lengthOf q c ≤ lengthOf r c
-  pub head : ((lengthOf q c ≡ 0) → ⊥) → waitingAt r c 0 ≡ waitingAt q c 0
+  pub oldest : ((lengthOf q c ≡ 0) → ⊥) → waitingAt r c 0 ≡ waitingAt q c 0
 
 pub grown-none : (q : Queues) (c : ℕ) → Grown q q c
-grown-none q c = record { longer = le-refl (lengthOf q c); head = λ some. refl }
+grown-none q c = record { longer = le-refl (lengthOf q c); oldest = λ some. refl }
 
 pub grown-more : (q r u : Queues) (c : ℕ) → Grown q r c → Grown r u c → Grown q u c
 grown-more q r u c g h =
     record {
       longer = le-trans (g .longer) (h .longer);
-      head = λ some. h .head (λ e. let none : lengthOf q c ≡ 0 = omega (arith, g .longer, e) in some none) ∙ g .head some;
+      oldest = λ some. h .oldest (λ e. let none : lengthOf q c ≡ 0 = omega (arith, g .longer, e) in some none) ∙ g .oldest some;
     }
 
 -- an offer that is taken, and one that is not
@@ -69,11 +69,11 @@ offer-grown n q r few long c =
     subst (Grown q (enqueue q d w)) (sym (eqb-true c d same))
     (record {
       longer = omega (arith, enqueue-longer q d w inside);
-      head = λ some. enqueue-before q d w 0 (lt-of-le-ne zero-le (λ z. some (sym z))) short;
+      oldest = λ some. enqueue-before q d w 0 (lt-of-le-ne zero-le (λ z. some (sym z))) short;
     }))
     (λ other.
     let apart = eqb-false c d other in
-    record { longer = omega (arith, enqueue-else q d w c apart); head = λ some. enqueue-apart q d w c 0 apart })
+    record { longer = omega (arith, enqueue-else q d w c apart); oldest = λ some. enqueue-apart q d w c 0 apart })
     (either (eqb c d))))
     (λ e. subst (λ (after : Queues). Grown q after c) (sym (on-false status (enqueue q d w) q e)) (grown-none q c))
     (either status)

@@ -52,7 +52,7 @@ driven-beside b c apart =
     let other : c ≢ b .owner = λ e. apart (sym e) in
     outcome b (λ d. Grown (b .queues) (d .queues) c)
     (λ due. grown-none (b .queues) c)
-    (λ due goes. record { longer = omega (arith, dequeue-else (b .queues) (b .owner) (goesAt b) c other); head = λ some. dequeue-apart (b .queues) (b .owner) (goesAt b) c 0 other })
+    (λ due goes. record { longer = omega (arith, dequeue-else (b .queues) (b .owner) (goesAt b) c other); oldest = λ some. dequeue-apart (b .queues) (b .owner) (goesAt b) c 0 other })
     (λ due stays. grown-none (b .queues) c)
 
 module _ (p : Policy) (given : policyInRange p ≡ true) where

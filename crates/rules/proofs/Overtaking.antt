@@ -6,9 +6,9 @@ use mathlib.Core.Logic.{_⊎_, _≢_, inl, inr, ⊎-elim}
 use mathlib.Core.Bool.{Bool, true, false, cond, _&&_, _||_}
 use mathlib.Core.List.{List, [], _∷_, _++_, append-assoc, append-nil}
 use Prim.Native.Nat.{ℕ, zero, suc, _+_, _-_, _≤_, _<_, zero-le, suc-le-suc}
-use native.Mathlib.Nat.{lt-irrefl, not-suc-le-zero}
+use native.Mathlib.Nat.{not-suc-le-zero}
 use native.Mathlib.Omega.{arith}
-use borrow.Author.Tests.{eqb-true, eqb-false, eq-eqb, ne-eqb, lt-ltb}
+use borrow.Author.Tests.{eqb-true, eqb-false, eq-eqb, lt-ltb}
 use lib.Arith.{lt-of-le-ne}
 use lib.Dec.{ltb, eqb}
 use lib.ListN.{length, getD, take, drop, length-append}
@@ -30,16 +30,15 @@ use Rattle.flight.specs.Flight.{dueAt}
 use Rattle.state.specs.Fresh.{emptyQueues, stateAtStart, freshState}
 use Rattle.state.specs.Range.{inRange}
 use Rattle.state.specs.declared.State.{State}
-use Rattle.state.specs.declared.Turns.{Turns}
 use Rattle.rules.specs.Queue.{enqueue, passedAfter, offerStatus, queuesAfter}
 use Rattle.rules.specs.Wire.{gapsMetBy, gapsMet}
 use Rattle.rules.specs.Step.{turnsAt, TurnStart, Driven, Bus, dueColumn, mayGo, goesAt, going, canActivate, columnSent, requestSent, nothingSent, drive, answered}
 use Rattle.rules.specs.Call.{offerOn, busAt, afterTick, silent}
-use Rattle.rules.specs.Calls.{Answer, ticked, offered, answerTo, stateAfter}
-use Rattle.rules.specs.Overtaking.{onlyIf, those, ofClass, ofStream, takenOffers, activations, Overtaking}
+use Rattle.rules.specs.Calls.{Answer, ticked, offered, answerTo, stateAfter, logOf}
+use Rattle.rules.specs.Overtaking.{onlyIf, those, ofClass, ofStream, takenOffers, commandsIn, activations, Overtaking}
 use Rattle.rules.proofs.Queue.{enqueue-passed, enqueue-end, enqueue-beside, dequeue-closes, dequeue-beside, dequeue-passed, dequeue-else-passed}
 use Rattle.rules.proofs.Step.{turn-owner, outcome}
-use Rattle.rules.proofs.Range.{Ranged, ranged, small-classes, right-class, sound-offer, BusRange, bus-range, goes-waits, goes-first, goes-past, going-right, going-sound, due-offer}
+use Rattle.rules.proofs.Range.{ranged, small-classes, right-class, sound-offer, BusRange, bus-range, goes-waits, goes-first, goes-past, going-right, going-sound, due-offer}
 use Rattle.rules.proofs.Call.{offer-is, tick-late, called-offer, called-malformed}
 use Rattle.rules.proofs.CallsKept.{below-sixteen, room, taken, zero-at, fresh-fits}
 use Rattle.rules.proofs.SingleCalls.{tick-called, tick-answered}
@@ -417,8 +416,8 @@ module _ (p : Policy) (c : ℕ) (small : c < 16) (bank kind : ℕ) where
 
   -- a list of calls
   ordered : (ws : List ℕ) (s : State) → inRange p s ≡ true
-      → those stream (waiting (s .queues) c) ++ those stream (takenOffers p s ws) ≡ those stream (activations p s ws) ++ those stream (waiting (stateAfter p s ws .queues) c)
-  unfolding takenOffers activations stateAfter those
+      → those stream (waiting (s .queues) c) ++ those stream (takenOffers ws (logOf p s ws)) ≡ those stream (activations ws (logOf p s ws)) ++ those stream (waiting (stateAfter p s ws .queues) c)
+  unfolding takenOffers activations commandsIn stateAfter logOf those
   ordered [] s fits = append-nil (those stream (waiting (s .queues) c))
   ordered (w ∷ ws) s fits =
       let a = answerTo p s w in
@@ -428,8 +427,8 @@ module _ (p : Policy) (c : ℕ) (small : c < 16) (bank kind : ℕ) where
       let after = those stream (waiting (stateAfter p next ws .queues) c) in
       let offer = onlyIf (isOffer w && eqb (a .status) 0) w in
       let sent = onlyIf (isOffer (a .command)) (a .command) in
-      let offers = takenOffers p next ws in
-      let sents = activations p next ws in
+      let offers = takenOffers ws (logOf p next ws) in
+      let sents = activations ws (logOf p next ws) in
       ap (λ (l : List ℕ). before ++ l) (those-append stream offer offers)
       ∙ sym (append-assoc before (those stream offer) (those stream offers))
       ∙ ap (λ (l : List ℕ). l ++ those stream offers) (one-step s w a (one-call p c small s w fits))
@@ -450,16 +449,16 @@ some-there x e = not-suc-le-zero {n = 0} (omega (arith, ap length e))
 
 module _ (p : Policy) (c : ℕ) (small : c < 16) (oldest : ℕ) where
   -- the activates of the class that pass it, and those that have passed it, are 15 at most
-  passing : (ws : List ℕ) (s : State) (rest : List ℕ) → inRange p s ≡ true → waiting (s .queues) c ≡ oldest ∷ rest → those (eqb oldest) (activations p s ws) ≡ []
-      → length (those (ofClass c) (activations p s ws)) + passedOf (s .queues) c ≤ 15
-  unfolding activations those passedAfter
+  passing : (ws : List ℕ) (s : State) (rest : List ℕ) → inRange p s ≡ true → waiting (s .queues) c ≡ oldest ∷ rest → those (eqb oldest) (activations ws (logOf p s ws)) ≡ []
+      → length (those (ofClass c) (activations ws (logOf p s ws))) + passedOf (s .queues) c ≤ 15
+  unfolding activations commandsIn logOf those passedAfter
   passing [] s rest fits waits none = omega (arith, ranged p s fits .queues .queue c small .few-passed)
   passing (w ∷ ws) s rest fits waits none =
       let a = answerTo p s w in
       let next = a .state in
       let kept = answered-in-range p s w fits in
       let sent = onlyIf (isOffer (a .command)) (a .command) in
-      let sents = activations p next ws in
+      let sents = activations ws (logOf p next ws) in
       let apart = no-rest (those (eqb oldest) sent) (those (eqb oldest) sents) (sym (those-append (eqb oldest) sent sents) ∙ none) in
       let both = ap length (those-append (ofClass c) sent sents) ∙ length-append (those (ofClass c) sent) (those (ofClass c) sents) in
       ⊎-elim
@@ -502,7 +501,7 @@ overtaking p given =
     record {
       in-order =
           λ ws c bank kind class.
-          ap (λ (l : List ℕ). those (ofStream c bank kind) l ++ those (ofStream c bank kind) (takenOffers p (freshState p) ws)) (sym (none-waits p c))
+          ap (λ (l : List ℕ). those (ofStream c bank kind) l ++ those (ofStream c bank kind) (takenOffers ws (logOf p (freshState p) ws))) (sym (none-waits p c))
           ∙ ordered p c (small c class) bank kind ws (freshState p) fits;
       at-most-15-pass =
           λ ws more c oldest rest class waits none.

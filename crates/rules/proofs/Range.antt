@@ -349,7 +349,6 @@ module _ (n : ℕ) (b : Bus) (r : BusRange n b) where
         timed = r .timed;
         ticks-left = left;
         class = r .owner-small;
-        in-ring = r .queues .queue (b .owner) (r .owner-small) .in-ring;
         short = r .queues .queue (b .owner) (r .owner-small) .short;
         sound =
             λ k some.

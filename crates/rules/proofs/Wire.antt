@@ -2,7 +2,7 @@
 -- cycle. That a last activate is before a cycle is that a gap of 1 is met there. How one is stored is told apart in this file alone, beside the proofs of the functions that
 -- store and read one.
 -- Assumes nothing.
-use mathlib.Core.Path.{_≡_, refl}
+use mathlib.Core.Path.{_≡_}
 use mathlib.Core.Logic.{⊎-elim}
 use mathlib.Core.Bool.{true, _&&_, _||_}
 use Prim.Native.Nat.{ℕ, _+_, _≤_, _<_, zero-le}

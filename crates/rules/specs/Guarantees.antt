@@ -54,12 +54,12 @@ Started p ws k = firstTick p k < ticksIn p ws
 abbrev pub Ended : Policy → List ℕ → ℕ → Type 0
 Ended p ws k = firstTick p (k + 1) ≤ ticksIn p ws
 
--- class c "has a request waiting" at the start of turn number k; the oldest of them, "the head at that start"
+-- class c "has a request waiting" at the start of turn number k; the oldest of them
 abbrev pub Waits : Policy → List ℕ → ℕ → ℕ → Type 0
 Waits p ws k c = (lengthOf (atTick p ws (firstTick p k) .queues) c ≡ 0) → ⊥
 
-abbrev pub headAt : Policy → List ℕ → ℕ → ℕ → ℕ
-headAt p ws k c = waitingAt (atTick p ws (firstTick p k) .queues) c 0
+abbrev pub oldestAt : Policy → List ℕ → ℕ → ℕ → ℕ
+oldestAt p ws k c = waitingAt (atTick p ws (firstTick p k) .queues) c 0
 
 -- class c owns turn number k: the turn starts, and its turn number in the log says so ("The owner is the turn number's low 8 bits less 1")
 unfoldable pub owns : Policy → List ℕ → ℕ → ℕ → Bool
@@ -84,7 +84,7 @@ pub record ActivatedIn (p : Policy) (ws : List ℕ) (k c : ℕ) : Type 0 where
 
 -- ---- what is promised
 
--- "a turn of its own starts": class c owns turn number `turn`, one of so many from turn number k on and the first of its own among them, and its head at the start of k is its head still
+-- "a turn of its own starts": class c owns turn number `turn`, one of so many from turn number k on and the first of its own among them, and its oldest request at the start of k is its oldest still
 pub record OwnTurn (p : Policy) (ws : List ℕ) (k many c : ℕ) : Type 0 where
   pub turn : ℕ
   pub not-before : k ≤ turn
@@ -92,7 +92,7 @@ pub record OwnTurn (p : Policy) (ws : List ℕ) (k many c : ℕ) : Type 0 where
   pub own : owns p ws c turn ≡ true
   pub first : (j : ℕ) → k ≤ j → j < turn → owns p ws c j ≡ false
   pub waits : Waits p ws turn c
-  pub same-head : headAt p ws turn c ≡ headAt p ws k c
+  pub same-oldest : oldestAt p ws turn c ≡ oldestAt p ws k c
 
 -- of every policy in range, every list of calls from fresh and every class
 pub record Guarantees (p : Policy) : Type 0 where
@@ -110,10 +110,11 @@ pub record Guarantees (p : Policy) : Type 0 where
       → ((j : ℕ) → j < p .epoch → Started p ws (e * p .epoch + j) × Waits p ws (e * p .epoch + j) (least p))
       → ownedIn p ws e (least p) ≡ cap p (least p)
   -- "If a class with a minimum of 1 or more has a request waiting at a turn's start, a turn of its own starts within E turns, that one counted, if so many start, or the request has gone before." A request goes in
-  -- a turn of its class alone, so the first half always holds, with the same head.
+  -- a turn of its class alone, so the first half always holds, with the same oldest.
   pub within-an-epoch : (ws : List ℕ) (k c : ℕ) → isClass p c ≡ true → 1 ≤ minimum p c → Waits p ws k c → Started p ws (k + (p .epoch - 1))
       → OwnTurn p ws k (p .epoch) c
-  -- "With a turn length of at least twice the dead time", W-203's "some request of the class" "is activated in that turn, if it is ticked to its end."
+  -- "With a turn length of at least twice the dead time, the head at that start is activated in that turn, if it is ticked to its end.", where W-203 reads "some request of the class" for the head. It need not be one that waited at that start: one that comes
+  -- later may pass them all, and its gaps hold them back until the turn's end.
   pub some-goes : (ws : List ℕ) (k c : ℕ) → 2 * p .timing .dead ≤ p .timing .turn → owns p ws c k ≡ true → Waits p ws k c → Ended p ws k
       → ActivatedIn p ws k c
 

@@ -9,8 +9,8 @@ use Rattle.policy.specs.Policy.{isClass, flows}
 use Rattle.policy.specs.declared.Policy.{Policy}
 use Rattle.requests.specs.Sizes.{ringPlaces}
 use Rattle.requests.specs.Word.{isOffer, requestOf, wordOf}
-use Rattle.queues.specs.Waiting.{lengthOf, waiting}
-use Rattle.rules.specs.Queue.{enqueue, dequeue}
+use Rattle.queues.specs.Waiting.{lengthOf, passedOf, waiting}
+use Rattle.rules.specs.Queue.{enqueue, passedAfter, dequeue}
 use Rattle.rules.specs.Traversal.{candidates, tryClass}
 use Rattle.rules.specs.Lookahead.{elides}
 use Rattle.rules.specs.Step.{startTurn}
@@ -52,12 +52,16 @@ pub record SingleLaws : Type 0 where
   -- a request of which the word cannot hold a number as it is, which document 01 leaves open, is refused
   pub too-large : (p : Policy) (s : State) (r : Request) → inRange p s ≡ true → (32 ≤ r .class) ⊎ (4 ≤ r .kind) ⊎ (16 ≤ r .bank) → ((offer p s r .status ≡ 9) ⊎ (offer p s r .status ≡ 10)) × (offer p s r .state ≡ s)
 
--- the waiting requests of a class: an enqueue puts one at the end, a dequeue takes the k-th from the oldest and "the rest of the queue closes up in its order" (W-203), and other classes' stay
+-- the waiting requests of a class: an enqueue puts one at the end, a dequeue takes the k-th from the oldest and "the rest of the queue closes up in its order" (W-203), and other classes' stay. And how many have passed the oldest: a dequeue of
+-- another counts one more, one of the oldest sets it to 0, and nothing else changes it.
 pub record WaitingLaws (q : Queues) (c : ℕ) : Type 0 where
   pub at-end : (w : ℕ) → lengthOf q c < ringPlaces → waiting (enqueue q c w) c ≡ waiting q c ++ (w ∷ [])
-  pub from-middle : (k : ℕ) → k < lengthOf q c → waiting (dequeue q c k) c ≡ take k (waiting q c) ++ drop (k + 1) (waiting q c)
+  pub closes-up : (k : ℕ) → k < lengthOf q c → waiting (dequeue q c k) c ≡ take k (waiting q c) ++ drop (k + 1) (waiting q c)
   pub enqueue-beside : (d w : ℕ) → ((d ≡ c) → ⊥) → waiting (enqueue q c w) d ≡ waiting q d
   pub dequeue-beside : (d k : ℕ) → ((d ≡ c) → ⊥) → waiting (dequeue q c k) d ≡ waiting q d
+  pub counted : (k : ℕ) → passedOf (dequeue q c k) c ≡ passedAfter k (passedOf q c)
+  pub enqueue-counts : (d w : ℕ) → passedOf (enqueue q c w) d ≡ passedOf q d
+  pub dequeue-counts : (d k : ℕ) → ((d ≡ c) → ⊥) → passedOf (dequeue q c k) d ≡ passedOf q d
 
 -- the laws of every policy in range
 pub record SchedulerLaws (p : Policy) : Type 0 where

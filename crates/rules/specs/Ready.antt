@@ -6,7 +6,7 @@ use Prim.Native.Nat.{ℕ, _≤_, _<_}
 use Rattle.policy.specs.Laws.{TimingLaws}
 use Rattle.requests.specs.Sizes.{lastCycle, ringPlaces, bankCount}
 use Rattle.requests.specs.Word.{kindOf, bankOf, isOffer}
-use Rattle.queues.specs.Waiting.{headOf, lengthOf, waitingAt}
+use Rattle.queues.specs.Waiting.{lengthOf, waitingAt}
 use Rattle.rules.specs.Step.{Bus, dueColumn}
 
 pub record SoundRequest (w : ℕ) : Type 0 where
@@ -18,7 +18,6 @@ pub record Ready (b : Bus) : Type 0 where
   pub timed : TimingLaws (b .timing)
   pub ticks-left : b .cycle < lastCycle
   pub class : b .owner < 16
-  pub in-ring : headOf (b .queues) (b .owner) < ringPlaces
   pub short : lengthOf (b .queues) (b .owner) ≤ ringPlaces
   pub sound : (k : ℕ) → k < lengthOf (b .queues) (b .owner) → SoundRequest (waitingAt (b .queues) (b .owner) k)
   pub due-offer : ((dueColumn b ≡ 0) → ⊥) → isOffer (dueColumn b) ≡ true

@@ -83,11 +83,13 @@ pub record Bus : Type 0 where
 abbrev pub dueColumn : Bus → ℕ
 dueColumn b = dueAt (b .flight .columns) (b .cycle)
 
--- W-203: the owner's k-th request from the oldest may go if its "gaps are met", and, where it is another than the oldest, if fewer than 15 have passed that: "nothing passes it again"
+-- W-203: "A request that has been the oldest while 15 others passed it goes next, and nothing passes it again": the oldest may go before others, and the k-th from it before it only if fewer than 15 have passed it
+abbrev pub mayPass : ℕ → ℕ → Bool
+mayPass k passed = eqb k 0 || ltb passed mostPassed
+
+-- the owner's k-th request from the oldest may go: it may pass, and its "gaps are met"
 unfoldable pub mayGo : Bus → ℕ → Bool
-mayGo b k =
-    (eqb k 0 || ltb (passedOf (b .queues) (b .owner)) mostPassed)
-    && gapsMet (b .timing) (b .flight) (waitingAt (b .queues) (b .owner) k) (b .cycle)
+mayGo b k = mayPass k (passedOf (b .queues) (b .owner)) && gapsMet (b .timing) (b .flight) (waitingAt (b .queues) (b .owner) k) (b .cycle)
 
 -- W-203: "The owner now activates its oldest request whose gaps are met": the place of the one that goes, counted from the oldest; the queue's length where none may go. `Queue.dequeue` takes out the one at this
 -- place.

@@ -7,7 +7,7 @@ use native.Mathlib.Nat.{not-suc-le-zero}
 use Rattle.policy.specs.declared.Policy.{Policy}
 use Rattle.rules.specs.Climb.{Climbs}
 use Rattle.rules.specs.Step.{Bus}
-use Rattle.wires.specs.InPlace.{Rests}
+use Rattle.wires.specs.InPlace.{NoneUntil}
 use Rattle.scheduler.specs.InPlace.{Lent, stateOf}
 use Rattle.scheduler.specs.declared.ticking.Moment.{Moment}
 use Rattle.state.specs.declared.State.{State}
@@ -22,5 +22,5 @@ abbrev pub with-numbers : State → Moment → State
 with-numbers s m = stateOf m (s .queues .slots) (s .queues .heads) (s .queues .lengths) (s .queues .passed) (s .turns .left) (s .turns .pointers) (s .flight .columns) (s .flight .responses) (s .flight .banks)
 
 -- where nothing is known of when a request may go, nothing is said
-pub nothing-known : (b : Bus) (rest : ℕ) → rest ≡ 0 → Rests b rest
-nothing-known b rest e t early = absurd (not-suc-le-zero (subst (λ (n : ℕ). t + 1 < n) e early))
+pub nothing-known : (b : Bus) (until : ℕ) → until ≡ 0 → NoneUntil b until
+nothing-known b until e t early = absurd (not-suc-le-zero (subst (λ (n : ℕ). t + 1 < n) e early))

@@ -15,7 +15,7 @@ use Rattle.flight.specs.Flight.{flightOf}
 use Rattle.state.specs.Range.{inRange}
 use Rattle.rules.specs.Call.{busAt}
 use Rattle.rules.specs.Calls.{Answer}
-use Rattle.wires.specs.InPlace.{Rests}
+use Rattle.wires.specs.InPlace.{NoneUntil}
 use Rattle.scheduler.specs.declared.turning.Owned.{Owned}
 use Rattle.scheduler.specs.declared.ticking.Moment.{Moment}
 use Rattle.scheduler.specs.declared.ticking.Called.{Called}
@@ -42,21 +42,21 @@ momentOf p s =
       owner = s .turns .owner;
       elided = s .turns .elided;
       last = s .flight .last;
-      rest = 0;
+      until = 0;
     }
 
 -- the offset in the turn is that of the cycle
 abbrev pub InStep : Policy → Moment → Type 0
 InStep p m = m .offset ≡ m .cycle % p .timing .turn
 
--- the numbers with another tick before which none may go
-abbrev pub withRest : Moment → ℕ → Moment
-withRest m rest =
-    record { cycle = m .cycle; offset = m .offset; bottom = m .bottom; free = m .free; classes = m .classes; owner = m .owner; elided = m .elided; last = m .last; rest = rest }
+-- the numbers with another `until`, a tick, counted from 1, before which none of the owner's requests may go
+abbrev pub withUntil : Moment → ℕ → Moment
+withUntil m until =
+    record { cycle = m .cycle; offset = m .offset; bottom = m .bottom; free = m .free; classes = m .classes; owner = m .owner; elided = m .elided; last = m .last; until = until }
 
--- the numbers a cycle later, with the turn's owner and its elision, another last activate and another such tick
+-- the numbers a cycle later, with the turn's owner and its elision, another last activate and another `until`
 abbrev pub nextMoment : Timing → Moment → ℕ → Bool → ℕ → ℕ → Moment
-nextMoment timing m owner elided last rest =
+nextMoment timing m owner elided last until =
     record {
       cycle = m .cycle + 1;
       offset = (m .cycle + 1) % timing .turn;
@@ -66,7 +66,7 @@ nextMoment timing m owner elided last rest =
       owner = owner;
       elided = elided;
       last = last;
-      rest = rest;
+      until = until;
     }
 
 -- ---- of the numbers and arrays that are worked on: the state
@@ -95,15 +95,15 @@ answeredWith m status = record { moment = m; status = status; command = 0; respo
 
 -- ---- what a call in place rests on, and what stays from one to the next
 
--- before the tick that goes along none of the owner's requests may go, as the state stands
-abbrev pub Resting : Policy → State → Moment → Type 0
-Resting p s m = Rests (busAt p s (s .turns)) (m .rest)
+-- what `until` says of a state: none of its owner's requests may go before that tick
+abbrev pub NoneYet : Policy → State → Moment → Type 0
+NoneYet p s m = NoneUntil (busAt p s (s .turns)) (m .until)
 
--- policy and state are in range, the offset is in step, none may go before the tick that goes along, and what is lent is the policy's
+-- policy and state are in range, the offset is in step, none may go before the tick `until`, and what is lent is the policy's
 pub record Working (p : Policy) (s : State) (m : Moment) (rows covers caps : List ℕ) : Type 0 where
   pub ranges : inRange p s ≡ true
   pub in-step : InStep p m
-  pub rests : Resting p s m
+  pub none-until : NoneYet p s m
   pub lent : Lent p (m .bottom) (m .free) rows covers caps
 
 -- the numbers after a call: the offset is in step again, and the policy's numbers and the class count are what they were

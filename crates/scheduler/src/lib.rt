@@ -10,7 +10,7 @@ ghost use Rattle.state.specs.Range.{inRange};
 ghost use Rattle.state.specs.declared.State.{State};
 ghost use Rattle.rules.specs.Calls.{answerTo, stateAfter, logOf, lineWritten};
 ghost use Rattle.rules.specs.Run.{run, logAfter};
-ghost use Rattle.scheduler.specs.InPlace.{withRest, stateOf, answeredWith, answerOf, Resting, Working, Continues};
+ghost use Rattle.scheduler.specs.InPlace.{withUntil, stateOf, answeredWith, answerOf, NoneYet, Working, Continues};
 use flight::Banks;
 use flight::Pending;
 use policy::Policy;
@@ -51,12 +51,12 @@ fn answered(moment: Moment, status: u32) -> Called
     }
 }
 
-// The numbers after an offer: one of the owner's may go at once.
-fn unrested(m: Moment) -> Moment
-    ensures { λ r. ⌜ r ≡ withRest m 0 ⌝ }
+// The numbers after an offer, taken or not, of whatever class: nothing is known of when one of the owner's requests may go.
+fn nothing_known(m: Moment) -> Moment
+    ensures { λ r. ⌜ r ≡ withUntil m 0 ⌝ }
 {
     let mut after = m;
-    after.rest = 0;
+    after.until = 0;
     after
 }
 
@@ -85,7 +85,7 @@ fn call_at(
     ensures answered { λ s r. ⌜ answerOf r (stateOf (r .moment) (now (slots .exit)) (now (heads .exit)) (now (lengths .exit))
         (now (passed .exit)) (now (left .exit)) (now (pointers .exit)) (now (columns .exit)) (now (responses .exit)) (now (banks .exit))) ≡ answerTo p s word ⌝ }
     ensures next { λ s r. ⌜ Continues p m (r .moment) ⌝ }
-    ensures rests { λ s r. ⌜ Resting p (answerTo p s word .state) (r .moment) ⌝ }
+    ensures until { λ s r. ⌜ NoneYet p (answerTo p s word .state) (r .moment) ⌝ }
 {
     let call = requests::call_of(word);
     match call {
@@ -112,7 +112,7 @@ fn call_at(
         }
         Call::Offer(r) => {
             let status = wires::offer(m.classes, slots, heads, lengths, r, word);
-            answered(unrested(m), status)
+            answered(nothing_known(m), status)
         }
         Call::Malformed => answered(m, 14),
     }
@@ -155,7 +155,7 @@ fn calls(
     let mut owner = start.owner;
     let mut elided = start.elided;
     let mut last = start.last;
-    let mut rest = start.rest;
+    let mut until = start.until;
     let mut i = 0;
     while i < trace.len() {
         let m = Moment {
@@ -167,7 +167,7 @@ fn calls(
             owner,
             elided,
             last,
-            rest,
+            until,
         };
         let called = call_at(
             p,
@@ -200,7 +200,7 @@ fn calls(
         owner = after.owner;
         elided = after.elided;
         last = after.last;
-        rest = after.rest;
+        until = after.until;
         i += 1;
     }
     Moment {
@@ -212,7 +212,7 @@ fn calls(
         owner,
         elided,
         last,
-        rest,
+        until,
     }
 }
 

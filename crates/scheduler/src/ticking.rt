@@ -11,7 +11,7 @@ ghost use Rattle.requests.specs.Sizes.{lastCycle};
 ghost use Rattle.state.specs.declared.State.{State};
 ghost use Rattle.rules.specs.Call.{afterTick};
 ghost use Rattle.rules.specs.Calls.{ticked};
-ghost use Rattle.scheduler.specs.InPlace.{momentOf, nextMoment, stateOf, answerOf, Resting, Working, Continues};
+ghost use Rattle.scheduler.specs.InPlace.{momentOf, nextMoment, stateOf, answerOf, NoneYet, Working, Continues};
 use super::turning;
 use flight::Banks;
 use flight::Flight;
@@ -25,7 +25,7 @@ use timing::Timing;
 use wires::Instant;
 
 // The numbers of a state that stand in no array, and four that need not be worked out at each tick: the offset in the turn, the policy's least class, how many
-// turns of an epoch come before its home turns, and a tick, counted from 1, before which none of the owner's requests may go as things stand (0 where nothing is known of it).
+// turns of an epoch come before its home turns, and a tick, counted from 1, before which none of the owner's requests may go (0 where that is not known; see `wires::Instant`).
 pub struct Moment {
     pub cycle: u32,
     pub offset: u32,
@@ -35,7 +35,7 @@ pub struct Moment {
     pub owner: usize,
     pub elided: bool,
     pub last: u32,
-    pub rest: u64,
+    pub until: u64,
 }
 
 // What a call in place left, beside the arrays, and its four numbers in the log.
@@ -76,7 +76,7 @@ pub(crate) fn moment_of(p: Policy, s: State) -> Moment
         owner: turns.owner,
         elided: turns.elided,
         last: flight.last,
-        rest: 0,
+        until: 0,
     }
 }
 
@@ -133,17 +133,17 @@ fn next_offset(timing: Timing, cycle: u32, offset: u32) -> u32
     }
 }
 
-// The numbers a cycle later, with the turn's owner and its elision, another last activate and another tick before which none may go.
+// The numbers a cycle later, with the turn's owner and its elision, another last activate and another `until`.
 fn next_moment(
     timing: Timing,
     m: Moment,
     owner: usize,
     elided: bool,
     last: u32,
-    rest: u64,
+    until: u64,
 ) -> Moment
     requires { ⌜ TimingLaws timing × (m .offset ≡ m .cycle % timing .turn) × (m .cycle < lastCycle) ⌝ }
-    ensures { λ r. ⌜ r ≡ nextMoment timing m owner elided last rest ⌝ }
+    ensures { λ r. ⌜ r ≡ nextMoment timing m owner elided last until ⌝ }
 {
     Moment {
         cycle: m.cycle + 1,
@@ -154,15 +154,15 @@ fn next_moment(
         owner,
         elided,
         last,
-        rest,
+        until,
     }
 }
 
-// Where a turn starts, nothing is known of its owner's requests.
-fn rest_of(m: Moment) -> u64
-    ensures { λ r. ⌜ r ≡ cond (eqb (m .offset) 0) 0 (m .rest) ⌝ }
+// `until` as a tick finds it: where a turn starts, nothing is known of its owner's requests.
+fn until_of(m: Moment) -> u64
+    ensures { λ r. ⌜ r ≡ cond (eqb (m .offset) 0) 0 (m .until) ⌝ }
 {
-    if m.offset == 0 { 0 } else { m.rest }
+    if m.offset == 0 { 0 } else { m.until }
 }
 
 // The three steps of a tick, on a state in range with a tick left.
@@ -189,7 +189,7 @@ pub(crate) fn tick_in_place(
     ensures ticked { λ s r. ⌜ answerOf r (stateOf (r .moment) (now (slots .exit)) (now (heads .exit)) (now (lengths .exit))
         (now (passed .exit)) (now (left .exit)) (now (pointers .exit)) (now (columns .exit)) (now (responses .exit)) (now (banks .exit))) ≡ ticked (afterTick p s) ⌝ }
     ensures next { λ s r. ⌜ Continues p m (r .moment) ⌝ }
-    ensures rests { λ s r. ⌜ Resting p (afterTick p s .state) (r .moment) ⌝ }
+    ensures until { λ s r. ⌜ NoneYet p (afterTick p s .state) (r .moment) ⌝ }
 {
     let timing = p.timing;
     let owned = turning::turns_at(p, m, rows, covers, caps, lengths, left, pointers);
@@ -199,7 +199,7 @@ pub(crate) fn tick_in_place(
         owner: owned.owner,
         elided: owned.elided,
         last: m.last,
-        rest: rest_of(m),
+        until: until_of(m),
     };
     let drove = wires::drive(
         timing,
@@ -213,7 +213,7 @@ pub(crate) fn tick_in_place(
         banks,
     );
     let response = flight::take_due(m.cycle, responses);
-    let moment = next_moment(timing, m, owned.owner, owned.elided, drove.last, drove.rest);
+    let moment = next_moment(timing, m, owned.owner, owned.elided, drove.last, drove.until);
     Called {
         moment,
         status: 0,

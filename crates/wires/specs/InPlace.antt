@@ -1,17 +1,17 @@
 -- What the functions that work in place are lent, and what they leave.
 use mathlib.Core.Path.{_≡_}
-use mathlib.Core.Bool.{Bool, true, false, cond, _&&_, _||_}
+use mathlib.Core.Bool.{Bool, true, false, cond, _&&_}
 use mathlib.Core.List.{List}
 use Prim.Native.Nat.{ℕ, _+_, _%_, _≤_, _<_, max}
-use lib.Dec.{ltb, eqb}
+use lib.Dec.{eqb}
 use lib.ListN.{getD}
 use Rattle.timing.specs.declared.Timing.{Timing}
-use Rattle.requests.specs.Sizes.{ringPlaces, bankCount, mostPassed}
+use Rattle.requests.specs.Sizes.{ringPlaces, bankCount}
 use Rattle.requests.specs.Word.{kindOf, bankOf, commandNumber}
 use Rattle.queues.specs.Waiting.{lengthOf, place}
 use Rattle.rules.specs.Queue.{enqueue}
 use Rattle.rules.specs.Wire.{opensAt, bankGap, gapsMetBy}
-use Rattle.rules.specs.Step.{Bus, mayGo, drive}
+use Rattle.rules.specs.Step.{Driven, Bus, mayPass, mayGo, drive}
 use Rattle.rules.specs.Ready.{Ready}
 use Rattle.queues.specs.declared.Queues.{Queues}
 use Rattle.flight.specs.declared.Flight.{Flight}
@@ -32,7 +32,7 @@ opensBy timing read write banks word =
 abbrev pub mayGoBy : Timing → ℕ → ℕ → List ℕ → List ℕ → ℕ → ℕ → ℕ → ℕ → Bool
 mayGoBy timing cycle last slots banks class head passed k =
     let word = getD slots (place class head k) 0 in
-    (eqb k 0 || ltb passed mostPassed) && gapsMetBy timing last (getD banks (bankOf word) 0) (kindOf word) cycle
+    mayPass k passed && gapsMetBy timing last (getD banks (bankOf word) 0) (kindOf word) cycle
 
 -- a queue is no longer than its ring, and each of its requests has a bank and a kind
 pub record Scannable (slots : List ℕ) (class head length : ℕ) : Type 0 where
@@ -49,27 +49,27 @@ busOf timing at queues flight =
 abbrev pub atCycle : Bus → ℕ → Bus
 atCycle b t = record { timing = b .timing; cycle = t; owner = b .owner; elided = b .elided; queues = b .queues; flight = b .flight }
 
--- as queues and last activates stand, none of the owner's requests may go before this tick, counted from 1
-abbrev pub Rests : Bus → ℕ → Type 0
-Rests b rest = (t : ℕ) → t + 1 < rest → (k : ℕ) → k < lengthOf (b .queues) (b .owner) → mayGo (atCycle b t) k ≡ false
+-- as queues and last activates stand, none of the owner's requests may go before this tick, the ticks counted from 1
+abbrev pub NoneUntil : Bus → ℕ → Type 0
+NoneUntil b until = (t : ℕ) → t + 1 < until → (k : ℕ) → k < lengthOf (b .queues) (b .owner) → mayGo (atCycle b t) k ≡ false
 
--- the bus has what the second step rests on, the offset that is handed in is that of the cycle, and the tick is one before which none may go
-pub record Drivable (b : Bus) (offset rest : ℕ) : Type 0 where
+-- the bus has what the second step rests on, the offset that is handed in is that of the cycle, and before the tick `until` that is handed in none may go
+pub record Drivable (b : Bus) (offset until : ℕ) : Type 0 where
   pub ready : Ready b
   pub in-step : offset ≡ b .cycle % b .timing .turn
-  pub rests : Rests b rest
+  pub none-until : NoneUntil b until
 
--- the bus that the second step leaves
-abbrev pub leftBy : Bus → Bus
-leftBy b = record { timing = b .timing; cycle = b .cycle; owner = b .owner; elided = b .elided; queues = drive b .queues; flight = drive b .flight }
+-- the bus with what an outcome of the second step left
+abbrev pub leftBy : Bus → Driven → Bus
+leftBy b d = record { timing = b .timing; cycle = b .cycle; owner = b .owner; elided = b .elided; queues = d .queues; flight = d .flight }
 
 -- what the second step left is the definition's: the command as its number in the log, the queues, and what is in flight; and before the tick that it hands back none may go
 pub record Carried (b : Bus) (r : Drove) (queues : Queues) (flight : Flight) : Type 0 where
   pub command : r .command ≡ commandNumber (drive b .wires)
   pub queues-are : queues ≡ drive b .queues
   pub flight-is : flight ≡ drive b .flight
-  pub rests : Rests (leftBy b) (r .rest)
+  pub none-until : NoneUntil (leftBy b (drive b)) (r .until)
 
 -- the promise of driving the wires in place
 abbrev pub Drives : Bus → Instant → Drove → Queues → Flight → Type 0
-Drives b at r queues flight = Drivable b (at .offset) (at .rest) → Carried b r queues flight
+Drives b at r queues flight = Drivable b (at .offset) (at .until) → Carried b r queues flight

@@ -23,7 +23,7 @@ use requests::BANK_COUNT;
 use requests::words;
 use timing::Timing;
 
-// Later than any tick.
+// Later than any tick: a queue in which nothing waits is not looked at again before an offer or a turn's start.
 const NEVER: u64 = 18446744073709551615;
 
 // The owner may activate at offsets before the dead time, or at all offsets if it is elided.
@@ -69,8 +69,8 @@ pub(crate) fn waiting_at(slots: &Slots, class: usize, head: usize, k: usize) -> 
 pub struct Found {
     // Its place, from the oldest; the queue's length where none may go.
     pub place: usize,
-    // Where none may go: before this tick, counted from 1, none may as things stand.
-    pub rest: u64,
+    // Where none may go: a tick, counted from 1, before which none may.
+    pub until: u64,
 }
 
 // The earlier of two ticks; the later of two; and the one of a kind, where these are a read's and a write's.
@@ -117,7 +117,7 @@ pub(crate) fn goes_at(
     requires { ⌜ class < 16 ⌝ }
     ensures first { λ r. ⌜ (Scannable (now (slots .entry)) class head length
         → r .place ≡ first length (mayGoBy timing cycle last (now (slots .entry)) (now (banks .entry)) class head passed)) ⌝ }
-    ensures rests { λ r. ⌜ (Scannable (now (slots .entry)) class head length → (t : ℕ) → t + 1 < r .rest → (k : ℕ) → k < length
+    ensures until { λ r. ⌜ (Scannable (now (slots .entry)) class head length → (t : ℕ) → t + 1 < r .until → (k : ℕ) → k < length
         → mayGoBy timing t last (now (slots .entry)) (now (banks .entry)) class head passed k ≡ false) ⌝ }
     ensures passes { λ r. ⌜ (r .place < length → 0 < r .place → passed < mostPassed) ⌝ }
 {
@@ -128,28 +128,28 @@ pub(crate) fn goes_at(
     if now < first {
         return Found {
             place: length,
-            rest: first,
+            until: first,
         };
     }
-    let mut rest = NEVER;
+    let mut until = NEVER;
     let mut k = 0;
     while (k < length) & (k < RING_PLACES) {
         let word = waiting_at(slots, class, head, k);
         let opens = opens_of(timing, read, write, banks, word);
         if opens <= now {
-            return Found { place: k, rest: 0 };
+            return Found { place: k, until: 0 };
         }
-        rest = earlier(rest, opens);
+        until = earlier(until, opens);
         if MOST_PASSED <= passed {
             return Found {
                 place: length,
-                rest,
+                until,
             };
         }
         k += 1;
     }
     Found {
         place: length,
-        rest,
+        until,
     }
 }

@@ -21,22 +21,23 @@ use timing::Timing;
 mod driving;
 mod queueing;
 
-// The numbers that the wires are driven by: the cycle and its offset in the turn, the owner and whether its dead time is elided, the last activate of all, and a tick, counted
-// from 1, before which none of the owner's requests may go as things stand (0 where nothing is known of it).
+// The numbers that the wires are driven by: the cycle and its offset in the turn, the owner and whether its dead time is elided, and the last activate of all. And `until`, a
+// tick, counted from 1, before which none of the owner's requests may go; 0 where that is not known. It is a shortcut that changes no result: a queue in which none may go is not
+// looked through again before one may. What it says holds until an offer, an activate or a turn's start.
 pub struct Instant {
     pub cycle: u32,
     pub offset: u32,
     pub owner: usize,
     pub elided: bool,
     pub last: u32,
-    pub rest: u64,
+    pub until: u64,
 }
 
-// What the wires carried, as its number in the log, the last activate of all after it, and the tick before which none of the owner's requests may go from then on.
+// What the wires carried, as its number in the log, the last activate of all after it, and `until` after it.
 pub struct Drove {
     pub command: u32,
     pub last: u32,
-    pub rest: u64,
+    pub until: u64,
 }
 
 // An offer, handed with its word: 9, 10 and 11 in that order, or 0 where it is taken and its word goes to the end of its class's queue. It changes no count of who has passed whom. A class above 15, which no policy
@@ -71,8 +72,8 @@ pub fn offer(
 }
 
 // The second step of a tick. It goes no further than it must: a due column command, the offset, whether any request may go by now, and then the owner's requests, oldest first,
-// until one may. Its whole result is promised of a bus that has
-// what the second step rests on, as every state in range has. Of another, which no call reaches and of which document 01 says nothing, the result is open.
+// until one may. Its whole result is promised of a bus that has what the second step rests on, as every state in range has. Of another, which no call reaches and of which
+// document 01 says nothing, the result is open.
 pub fn drive(
     timing: Timing,
     at: Instant,
@@ -92,23 +93,23 @@ pub fn drive(
     let place = (at.cycle % PENDING_PLACES) as usize;
     let due = columns[place];
     let last = at.last;
-    let rest = at.rest;
+    let until = at.until;
     if due != 0 {
         columns[place] = 0;
         let command = std::num::wrapping_add_u32(due, words::COLUMN);
         return Drove {
             command,
             last,
-            rest,
+            until,
         };
     }
     if !driving::offset_allows(timing, at.elided, at.cycle, at.offset)
-        | (at.cycle as u64 + 1 < rest)
+        | (at.cycle as u64 + 1 < until)
     {
         return Drove {
             command: 0,
             last,
-            rest,
+            until,
         };
     }
     let owner = at.owner % 16;
@@ -130,7 +131,7 @@ pub fn drive(
         return Drove {
             command: 0,
             last,
-            rest: found.rest,
+            until: found.until,
         };
     }
     let word = driving::waiting_at(slots, owner, head, k);
@@ -139,6 +140,6 @@ pub fn drive(
     Drove {
         command: word,
         last: newest,
-        rest: 0,
+        until: 0,
     }
 }

@@ -37,8 +37,9 @@ use Rattle.state.specs.Range.{inRange as stateRange}
 use Rattle.rules.specs.Call.{offerOn, silent, afterTick, tickOn, tick}
 use Rattle.requests.specs.Trace.{callOf}
 use Rattle.rules.specs.Calls.{Answer, ticked, offered, answer, answerTo, stateAfter, logOf}
+use Rattle.rules.specs.Overtaking.{commandsIn}
 use Rattle.rules.specs.Guarantees.{ticksIn, stateAtTick, atTick, firstTick, Started, Waits, owns, ownedIn}
-use Rattle.worked.specs.Worked.{timed, example, alone, pair, fork, spare, chain, full, aloneAtHome, chainAtHome, forkFilled, filledAbove, leastIsOne, busyBank, slowWrites, ticks, reads, everySecond, eachTurn, refilled, behindReads, logFrom, turnsIn, turnsFrom, commandsIn, commandsFrom, passedFrom, waitsAt, epochOfLeast, twoEpochs, startOf, printed, Case, table, WorkedTurns}
+use Rattle.worked.specs.Worked.{timed, example, alone, pair, fork, spare, chain, full, aloneAtHome, chainAtHome, forkFilled, filledAbove, leastIsOne, busyBank, slowWrites, ticks, reads, everySecond, eachTurn, refilled, behindReads, logFrom, turnsIn, turnsFrom, commandsFrom, passedFrom, waitsAt, epochOfLeast, twoEpochs, startOf, printed, Case, table, WorkedTurns}
 use Rattle.state.specs.declared.State.{State}
 use Rattle.requests.specs.declared.Call.{Call}
 use Rattle.requests.specs.declared.Call.the-variants.{Tick, Offer, Malformed}

@@ -16,6 +16,7 @@ use Rattle.queues.specs.Waiting.{lengthOf, passedOf}
 use Rattle.rules.specs.Step.{startTurn}
 use Rattle.state.specs.Fresh.{zeros, freshState}
 use Rattle.rules.specs.Calls.{stateAfter, logOf}
+use Rattle.rules.specs.Overtaking.{commandsIn}
 use Rattle.rules.specs.Guarantees.{ticksIn, atTick, firstTick, Started, Waits, ownedIn}
 
 -- a policy by its rows, its epoch, its minimums and its timing
@@ -109,19 +110,16 @@ turnsIn (suc calls) log = elim (eqb (getD log 3 0) 0) [ true ↦ turnsIn calls (
 unfoldable pub turnsFrom : Policy → List ℕ → List ℕ
 turnsFrom p trace = turnsIn (length trace) (logFrom p trace)
 
--- W-203: a read, a write and six reads of class 0, all in bank 0, and then so many times two ticks and one read more, so that some always wait
+-- W-203: so many times two ticks and a read of class 0
 unfoldable pub refilled : ℕ → List ℕ
 refilled zero = []
 refilled (suc n) = ticks 2 ++ reads 1 0 ++ refilled n
 
+-- a read, a write and six reads of class 0, all in bank 0, and then two ticks and one read more, so many times: some always wait
 unfoldable pub behindReads : ℕ → List ℕ
 behindReads n = reads 1 0 ++ (0x80100000 ∷ []) ++ reads 6 0 ++ refilled n
 
--- the command numbers of a log of so many calls: the second of each call's four numbers
-unfoldable pub commandsIn : ℕ → List ℕ → List ℕ
-commandsIn zero log = []
-commandsIn (suc calls) log = getD log 1 0 ∷ commandsIn calls (drop 4 log)
-
+-- the command numbers of a trace
 unfoldable pub commandsFrom : Policy → List ℕ → List ℕ
 commandsFrom p trace = commandsIn (length trace) (logFrom p trace)
 

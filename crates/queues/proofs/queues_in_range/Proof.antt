@@ -22,41 +22,41 @@ Inv-loop classes slots heads lengths passed class₀ class = Passed (test classe
 abbrev μ-loop : tie.MeasureT-loop
 μ-loop classes slots heads lengths passed class₀ class = 16 - class
 
--- the places that the answers look back to: `in-loop-of-queue-in-range` is `In-loop`, seen from `After-queue-in-range`
-abbrev in-loop-of-queue-in-range : tie.After-queue-in-range Inv-loop μ-loop → tie.In-loop Inv-loop μ-loop
-in-loop-of-queue-in-range c = c .before .before .before
+-- the places that the answers look back to: `in-loop-of-ring-in-range` is `In-loop`, seen from `After-ring-in-range`
+abbrev in-loop-of-ring-in-range : tie.After-ring-in-range Inv-loop μ-loop → tie.In-loop Inv-loop μ-loop
+in-loop-of-ring-in-range c = c .before .before .before
 
-abbrev start-of : tie.After-queue-in-range Inv-loop μ-loop → tie.Start Inv-loop μ-loop
-start-of c = in-loop-of-queue-in-range c .before .before
+abbrev start-of : tie.After-ring-in-range Inv-loop μ-loop → tie.Start Inv-loop μ-loop
+start-of c = in-loop-of-ring-in-range c .before .before
 
 abbrev in-loop-of-then1 : tie.Then1 Inv-loop μ-loop → tie.In-loop Inv-loop μ-loop
-in-loop-of-then1 c = in-loop-of-queue-in-range (c .before .before)
+in-loop-of-then1 c = in-loop-of-ring-in-range (c .before .before)
 
 abbrev in-loop-of-else1 : tie.Else1 Inv-loop μ-loop → tie.In-loop Inv-loop μ-loop
-in-loop-of-else1 c = in-loop-of-queue-in-range (c .before .before)
+in-loop-of-else1 c = in-loop-of-ring-in-range (c .before .before)
 
 -- the ring's test and the count's are the test at a number
-both : (c : tie.After-queue-in-range Inv-loop μ-loop) → (c .queue-in-range .result && leb (getD (start-of c .args .passed .now) (in-loop-of-queue-in-range c .before .loop .class) 0) 15) ≡ test (start-of c .args .classes) (start-of c .args .slots .now) (start-of c .args .heads .now) (start-of c .args .lengths .now) (start-of c .args .passed .now) (in-loop-of-queue-in-range c .before .loop .class)
+both : (c : tie.After-ring-in-range Inv-loop μ-loop) → (c .ring-in-range .result && leb (getD (start-of c .args .passed .now) (in-loop-of-ring-in-range c .before .loop .class) 0) 15) ≡ test (start-of c .args .classes) (start-of c .args .slots .now) (start-of c .args .heads .now) (start-of c .args .lengths .now) (start-of c .args .passed .now) (in-loop-of-ring-in-range c .before .loop .class)
 unfolding queueInRange headOf lengthOf passedOf
-both c = ap (λ (b : Bool). b && leb (getD (start-of c .args .passed .now) (in-loop-of-queue-in-range c .before .loop .class) 0) 15) (c .queue-in-range .ensures)
+both c = ap (λ (b : Bool). b && leb (getD (start-of c .args .passed .now) (in-loop-of-ring-in-range c .before .loop .class) 0) 15) (c .ring-in-range .ensures)
 
 loop-holds : tie.Need-loop-holds Inv-loop μ-loop
 loop-holds c = passed-none _ 16
 
-mul-queue-in-range : tie.Need-mul-queue-in-range Inv-loop μ-loop
-mul-queue-in-range c = search needs
+mul-ring-in-range : tie.Need-mul-ring-in-range Inv-loop μ-loop
+mul-ring-in-range c = search needs
 
-element-copy-out-queue-in-range : tie.Need-element-copy-out-queue-in-range Inv-loop μ-loop
-element-copy-out-queue-in-range c = search needs
+element-copy-out-ring-in-range : tie.Need-element-copy-out-ring-in-range Inv-loop μ-loop
+element-copy-out-ring-in-range c = search needs
 
-mul-queue-in-range-2 : tie.Need-mul-queue-in-range-2 Inv-loop μ-loop
-mul-queue-in-range-2 c = search needs
+mul-ring-in-range-2 : tie.Need-mul-ring-in-range-2 Inv-loop μ-loop
+mul-ring-in-range-2 c = search needs
 
-element-copy-out-queue-in-range-2 : tie.Need-element-copy-out-queue-in-range-2 Inv-loop μ-loop
-element-copy-out-queue-in-range-2 c = search needs
+element-copy-out-ring-in-range-2 : tie.Need-element-copy-out-ring-in-range-2 Inv-loop μ-loop
+element-copy-out-ring-in-range-2 c = search needs
 
-queue-in-range-requires : tie.Need-queue-in-range-requires Inv-loop μ-loop
-queue-in-range-requires c κs = search needs
+ring-in-range-requires : tie.Need-ring-in-range-requires Inv-loop μ-loop
+ring-in-range-requires c κs = search needs
 
 mul-if1 : tie.Need-mul-if1 Inv-loop μ-loop
 mul-if1 c = search needs
@@ -89,11 +89,11 @@ queues-in-range-spec =
     Inv-loop
     μ-loop
     loop-holds
-    mul-queue-in-range
-    element-copy-out-queue-in-range
-    mul-queue-in-range-2
-    element-copy-out-queue-in-range-2
-    queue-in-range-requires
+    mul-ring-in-range
+    element-copy-out-ring-in-range
+    mul-ring-in-range-2
+    element-copy-out-ring-in-range-2
+    ring-in-range-requires
     mul-if1
     element-copy-out-if1
     returns

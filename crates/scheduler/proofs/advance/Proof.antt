@@ -46,7 +46,7 @@ calls-requires c κs =
       record {
         ranges = subst (λ (x : State). inRange p x ≡ true) (sym (same-state at)) (s .pre .0);
         in-step = subst (InStep p) (sym e) refl;
-        rests = nothing-known (busAt p work (work .turns)) (at .moment-of .result .rest) (ap (λ (m : Moment). m .rest) e);
+        none-until = nothing-known (busAt p work (work .turns)) (at .moment-of .result .until) (ap (λ (m : Moment). m .until) e);
         lent = record { fit = fit; bottom-is = ap (λ (m : Moment). m .bottom) e; free-is = ap (λ (m : Moment). m .free) e; rows-are = refl; covers-are = refl; caps-are = refl };
       },
       s .pre .1,

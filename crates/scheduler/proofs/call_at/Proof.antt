@@ -10,7 +10,7 @@ use Rattle.queues.specs.Waiting.{queuesOf}
 use Rattle.requests.specs.Trace.{callOf}
 use Rattle.rules.specs.Call.{offerOn, busAt, silent}
 use Rattle.rules.specs.Calls.{Answer, ticked, offered, answerTo}
-use Rattle.scheduler.specs.InPlace.{withRest, stateOf, answerOf, answeredWith, Resting, Continues}
+use Rattle.scheduler.specs.InPlace.{withUntil, stateOf, answerOf, answeredWith, NoneYet, Continues}
 use Rattle.scheduler.specs.declared.ticking.Moment.{Moment}
 use Rattle.scheduler.specs.declared.ticking.Called.{Called}
 use Rattle.queues.specs.declared.Queues.{Queues}
@@ -57,15 +57,15 @@ queued s q = record { cycle = s .cycle; classes = s .classes; queues = q; turns 
 abbrev left-by : State → Called → Answer
 left-by s r = answerOf r (with-numbers s (r .moment))
 
--- a call that shows nothing leaves the numbers, but perhaps for the tick before which none may go
-stays-by : (s : tie.Start) (r : Called) (rest : ℕ) {k : ℕ} → r ≡ answeredWith (withRest (s .args .m) rest) k → Continues (s .args .p) (s .args .m) (r .moment)
-stays-by s r rest e =
+-- a call that shows nothing leaves the numbers, but perhaps for `until`
+stays-by : (s : tie.Start) (r : Called) (until : ℕ) {k : ℕ} → r ≡ answeredWith (withUntil (s .args .m) until) k → Continues (s .args .p) (s .args .m) (r .moment)
+stays-by s r until e =
     subst (λ (x : Called). Continues (s .args .p) (s .args .m) (x .moment)) (sym e) (record { in-step = s .pre .in-step; same-bottom = refl; same-free = refl; same-count = refl })
 
 -- where the state stays too, so does that
-rests-by : (s : tie.Start) (r : Called) {k : ℕ} → r ≡ answeredWith (s .args .m) k → given s ≡ right s .state → Resting (s .args .p) (right s .state) (r .moment)
-rests-by s r e same =
-    subst (λ (x : Called). Resting (s .args .p) (right s .state) (x .moment)) (sym e) (subst (λ (u : State). Resting (s .args .p) u (s .args .m)) same (s .pre .rests))
+none-by : (s : tie.Start) (r : Called) {k : ℕ} → r ≡ answeredWith (s .args .m) k → given s ≡ right s .state → NoneYet (s .args .p) (right s .state) (r .moment)
+none-by s r e same =
+    subst (λ (x : Called). NoneYet (s .args .p) (right s .state) (x .moment)) (sym e) (subst (λ (u : State). NoneYet (s .args .p) u (s .args .m)) same (s .pre .none-until))
 
 -- the word, told apart, is the call
 told : (c : tie.After-call-of) (call : Call) → c .call-of .result ≡ call → callOf (start-told c .args .word) ≡ call
@@ -91,7 +91,7 @@ returns c =
     ∙ sym (called-tick (s .args .p) (given s) (s .args .word) (told (at-late test) _ (test .before .before .enum-told .given .1)))
     in (
       ap (left-by (given s)) (c .answered .ensures) ∙ refused,
-      (stays-by s (c .answered .result) (s .args .m .rest) (c .answered .ensures), rests-by s (c .answered .result) (c .answered .ensures) (ap (λ (a : Answer). a .state) refused)),
+      (stays-by s (c .answered .result) (s .args .m .until) (c .answered .ensures), none-by s (c .answered .result) (c .answered .ensures) (ap (λ (a : Answer). a .state) refused)),
     )
 
 tick-in-place-requires : tie.Need-tick-in-place-requires
@@ -105,8 +105,8 @@ enum-known-call c = search needs
 offer-requires : tie.Need-offer-requires
 offer-requires c κs = search needs
 
-unrested-requires : tie.Need-unrested-requires
-unrested-requires c κs = search needs
+nothing-known-requires : tie.Need-nothing-known-requires
+nothing-known-requires c κs = search needs
 
 answered-requires-2 : tie.Need-answered-requires-2
 answered-requires-2 c κs = search needs
@@ -127,7 +127,7 @@ returns-2 c =
     ∙ sym (called-tick (s .args .p) (given s) (s .args .word) (told (at-tick test) _ (test .before .before .enum-told .given .1)))
     in (
       c .tick-in-place .ensures .0 ∙ did,
-      (c .tick-in-place .ensures .1 .0, subst (λ (a : Answer). Resting (s .args .p) (a .state) (c .tick-in-place .result .moment)) did (c .tick-in-place .ensures .1 .1)),
+      (c .tick-in-place .ensures .1 .0, subst (λ (a : Answer). NoneYet (s .args .p) (a .state) (c .tick-in-place .result .moment)) did (c .tick-in-place .ensures .1 .1)),
     )
 
 -- what the offer in place left is the offer
@@ -141,12 +141,12 @@ returns-3 c =
     let call = offer .before .before .before .before .before in
     let did = offer .offer .ensures in
     let status = did .0 (small-classes (s .args .p) (given s) (ranged (s .args .p) (given s) (s .pre .ranges))) in
-    let answers = c .answered2 .ensures ∙ ap (λ (m : Moment). answeredWith m (offer .offer .result)) (cleared .unrested .ensures) in
+    let answers = c .answered2 .ensures ∙ ap (λ (m : Moment). answeredWith m (offer .offer .result)) (cleared .nothing-known .ensures) in
     let queues = did .1 (s .args .passed .now) ∙ queued-by (s .args .m .classes) (given s .queues) _ _ _ status (offer-word (s .args .word) _ (told at _ (call .call .given .1))) in (
       ap (left-by (queued (given s) (queuesOf (offer .offer .last .1 .0) (s .args .heads .now) (offer .offer .last .1 .1 .1 .0) (s .args .passed .now)))) answers
           ∙ ap₂ (λ (k : ℕ) (q : Queues). record { state = queued (given s) q; status = k; command = 0; response = 0; turn = 0 }) status queues
           ∙ sym (called-offer (s .args .p) (given s) (s .args .word) _ (told at _ (call .call .given .1)) ∙ ap offered (offer-is (s .args .p) (given s) (s .pre .ranges) _)),
-      (stays-by s (c .answered2 .result) 0 answers, nothing-known (busAt (s .args .p) (right s .state) (right s .state .turns)) (c .answered2 .result .moment .rest) (ap (λ (x : Called). x .moment .rest) answers)),
+      (stays-by s (c .answered2 .result) 0 answers, nothing-known (busAt (s .args .p) (right s .state) (right s .state .turns)) (c .answered2 .result .moment .until) (ap (λ (x : Called). x .moment .until) answers)),
     )
 
 returns-4 : tie.Need-returns-4
@@ -156,7 +156,7 @@ returns-4 c =
     let s = start-told at in
     let refused = sym (called-malformed (s .args .p) (given s) (s .args .word) (told at _ (neither .enum-told2 .given .1))) in (
       ap (left-by (given s)) (c .answered3 .ensures) ∙ refused,
-      (stays-by s (c .answered3 .result) (s .args .m .rest) (c .answered3 .ensures), rests-by s (c .answered3 .result) (c .answered3 .ensures) (ap (λ (a : Answer). a .state) refused)),
+      (stays-by s (c .answered3 .result) (s .args .m .until) (c .answered3 .ensures), none-by s (c .answered3 .result) (c .answered3 .ensures) (ap (λ (a : Answer). a .state) refused)),
     )
 
 pub call-at-spec : {M : Type 1} → statement M
@@ -170,7 +170,7 @@ call-at-spec =
     tick-in-place-requires
     enum-known-call
     offer-requires
-    unrested-requires
+    nothing-known-requires
     answered-requires-2
     enum-told-2
     answered-requires-3

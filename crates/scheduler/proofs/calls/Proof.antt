@@ -11,7 +11,7 @@ use lib.Seq.{take-all}
 use Rattle.policy.specs.declared.Policy.{Policy}
 use Rattle.state.specs.Range.{inRange}
 use Rattle.rules.specs.Calls.{Answer, answerTo, stateAfter, logOf}
-use Rattle.scheduler.specs.InPlace.{stateOf, Resting, Working}
+use Rattle.scheduler.specs.InPlace.{stateOf, NoneYet, Working}
 use Rattle.scheduler.specs.declared.ticking.Moment.{Moment}
 use Rattle.state.specs.declared.State.{State}
 use Rattle.rules.proofs.Calls.{written, answered-in-range, state-more, log-more}
@@ -37,16 +37,16 @@ written-long log at a =
 
 -- the numbers of a state, put together
 abbrev numbers : ℕ → ℕ → ℕ → ℕ → ℕ → ℕ → Bool → ℕ → ℕ → Moment
-numbers cycle offset bottom free classes owner elided last rest = record { cycle = cycle; offset = offset; bottom = bottom; free = free; classes = classes; owner = owner; elided = elided; last = last; rest = rest }
+numbers cycle offset bottom free classes owner elided last until = record { cycle = cycle; offset = offset; bottom = bottom; free = free; classes = classes; owner = owner; elided = elided; last = last; until = until }
 
 abbrev Inv-loop : tie.InvT-loop
-Inv-loop p rows covers caps slots₀ heads₀ lengths₀ passed₀ left₀ pointers₀ columns₀ responses₀ banks₀ trace log₀ bottom free classes cycle₀ offset₀ owner₀ elided₀ last₀ rest₀ i₀ slots heads lengths passed left pointers columns responses banks log cycle offset owner elided last rest i =
-    let m = numbers cycle offset bottom free classes owner elided last rest in
-    let m₀ = numbers cycle₀ offset₀ bottom free classes owner₀ elided₀ last₀ rest₀ in
+Inv-loop p rows covers caps slots₀ heads₀ lengths₀ passed₀ left₀ pointers₀ columns₀ responses₀ banks₀ trace log₀ bottom free classes cycle₀ offset₀ owner₀ elided₀ last₀ until₀ i₀ slots heads lengths passed left pointers columns responses banks log cycle offset owner elided last until i =
+    let m = numbers cycle offset bottom free classes owner elided last until in
+    let m₀ = numbers cycle₀ offset₀ bottom free classes owner₀ elided₀ last₀ until₀ in
     After p rows covers caps trace log₀ (stateOf m₀ slots₀ heads₀ lengths₀ passed₀ left₀ pointers₀ columns₀ responses₀ banks₀) log m (stateOf m slots heads lengths passed left pointers columns responses banks) i
 
 abbrev μ-loop : tie.MeasureT-loop
-μ-loop p rows covers caps slots₀ heads₀ lengths₀ passed₀ left₀ pointers₀ columns₀ responses₀ banks₀ trace log₀ bottom free classes cycle₀ offset₀ owner₀ elided₀ last₀ rest₀ i₀ slots heads lengths passed left pointers columns responses banks log cycle offset owner elided last rest i =
+μ-loop p rows covers caps slots₀ heads₀ lengths₀ passed₀ left₀ pointers₀ columns₀ responses₀ banks₀ trace log₀ bottom free classes cycle₀ offset₀ owner₀ elided₀ last₀ until₀ i₀ slots heads lengths passed left pointers columns responses banks log cycle offset owner elided last until i =
     length trace - i
 
 -- ---- places
@@ -79,7 +79,7 @@ abbrev first : tie.Start Inv-loop μ-loop → State
 first s = stateOf (s .args .start) (s .args .slots .now) (s .args .heads .now) (s .args .lengths .now) (s .args .passed .now) (s .args .left .now) (s .args .pointers .now) (s .args .columns .now) (s .args .responses .now) (s .args .banks .now)
 
 abbrev present : tie.At-loop Inv-loop μ-loop → State
-present c = stateOf (numbers (c .loop .cycle) (c .loop .offset) (start-loop c .args .start .bottom) (start-loop c .args .start .free) (start-loop c .args .start .classes) (c .loop .owner) (c .loop .elided) (c .loop .last) (c .loop .rest)) (c .loop .slots) (c .loop .heads) (c .loop .lengths) (c .loop .passed) (c .loop .left) (c .loop .pointers) (c .loop .columns) (c .loop .responses) (c .loop .banks)
+present c = stateOf (numbers (c .loop .cycle) (c .loop .offset) (start-loop c .args .start .bottom) (start-loop c .args .start .free) (start-loop c .args .start .classes) (c .loop .owner) (c .loop .elided) (c .loop .last) (c .loop .until)) (c .loop .slots) (c .loop .heads) (c .loop .lengths) (c .loop .passed) (c .loop .left) (c .loop .pointers) (c .loop .columns) (c .loop .responses) (c .loop .banks)
 
 loop-holds : tie.Need-loop-holds Inv-loop μ-loop
 unfolding stateAfter logOf
@@ -134,7 +134,7 @@ loop-again c =
     let next = did .1 .0 in
     let r = call .call-at .result in
     let m = r .moment in
-    let left : ℕ → State = λ n. stateOf (numbers (m .cycle) (m .offset) (s .args .start .bottom) (s .args .start .free) n (m .owner) (m .elided) (m .last) (m .rest)) (call .call-at .last .1 .1 .1 .1 .1 .1 .0) (call .call-at .last .1 .1 .1 .1 .1 .1 .1 .0) (call .call-at .last .1 .1 .1 .1 .1 .1 .1 .1 .0) (call .call-at .last .1 .1 .1 .1 .1 .1 .1 .1 .1 .0) (call .call-at .last .1 .1 .1 .1 .1 .1 .1 .1 .1 .1 .0) (call .call-at .last .1 .1 .1 .1 .1 .1 .1 .1 .1 .1 .1 .0) (call .call-at .last .1 .1 .1 .1 .1 .1 .1 .1 .1 .1 .1 .1 .0) (call .call-at .last .1 .1 .1 .1 .1 .1 .1 .1 .1 .1 .1 .1 .1 .0) (call .call-at .last .1 .1 .1 .1 .1 .1 .1 .1 .1 .1 .1 .1 .1 .1 .0) in
+    let left : ℕ → State = λ n. stateOf (numbers (m .cycle) (m .offset) (s .args .start .bottom) (s .args .start .free) n (m .owner) (m .elided) (m .last) (m .until)) (call .call-at .last .1 .1 .1 .1 .1 .1 .0) (call .call-at .last .1 .1 .1 .1 .1 .1 .1 .0) (call .call-at .last .1 .1 .1 .1 .1 .1 .1 .1 .0) (call .call-at .last .1 .1 .1 .1 .1 .1 .1 .1 .1 .0) (call .call-at .last .1 .1 .1 .1 .1 .1 .1 .1 .1 .1 .0) (call .call-at .last .1 .1 .1 .1 .1 .1 .1 .1 .1 .1 .1 .0) (call .call-at .last .1 .1 .1 .1 .1 .1 .1 .1 .1 .1 .1 .1 .0) (call .call-at .last .1 .1 .1 .1 .1 .1 .1 .1 .1 .1 .1 .1 .1 .0) (call .call-at .last .1 .1 .1 .1 .1 .1 .1 .1 .1 .1 .1 .1 .1 .1 .0) in
     let state : left (s .args .start .classes) ≡ answerTo p (present at) word .state = ap left (sym (next .same-count)) ∙ ap (λ (a : Answer). a .state) (did .0) in
     let line = wrote .write .ensures ∙ ap (written (at .loop .log) (4 * i)) (did .0) in
     record {
@@ -150,7 +150,7 @@ loop-again c =
           record {
             ranges = subst (λ (s : State). inRange p s ≡ true) (sym state) (answered-in-range p (present at) word (inv .working .ranges));
             in-step = next .in-step;
-            rests = subst (λ (u : State). Resting p u m) (sym state) (did .1 .1);
+            none-until = subst (λ (u : State). NoneYet p u m) (sym state) (did .1 .1);
             lent = inv .working .lent;
           };
     }

@@ -21,7 +21,7 @@ use Rattle.rules.specs.Queue.{dequeue}
 use Rattle.rules.specs.Wire.{gapsMet, offsetAllows, activated}
 use Rattle.rules.specs.Step.{Driven, Bus, dueColumn, mayGo, goesAt, going, canActivate, columnSent, drive}
 use Rattle.rules.specs.Ready.{SoundRequest}
-use Rattle.wires.specs.InPlace.{mayGoBy, Scannable, busOf, Rests, Drivable, Carried}
+use Rattle.wires.specs.InPlace.{mayGoBy, Scannable, busOf, NoneUntil, leftBy, Drivable, Carried}
 use Rattle.wires.specs.declared.Drove.{Drove}
 use Rattle.queues.specs.declared.Queues.{Queues}
 use Rattle.requests.proofs.Word.{word-back, offer-fits}
@@ -56,7 +56,7 @@ abbrev bus-of : tie.Start → Bus
 bus-of s = busOf (s .args .timing) (s .args .at) (queues-of s) (flightOf (s .args .columns .now) (s .args .responses .now) (s .args .banks .now) (s .args .at .last))
 
 abbrev Given : tie.Start → Type 0
-Given s = Drivable (bus-of s) (s .args .at .offset) (s .args .at .rest)
+Given s = Drivable (bus-of s) (s .args .at .offset) (s .args .at .until)
 
 -- ---- what each test says
 
@@ -92,12 +92,12 @@ place-is c g =
     c .goes-at .ensures .0 (scannable c g) ∙ ap found (owner-is (start-of c) g)
 
 -- and before the tick found none may go
-rests-from : (c : tie.After-goes-at) → Given (start-of c) → Rests (bus-of (start-of c)) (c .goes-at .result .rest)
+none-from : (c : tie.After-goes-at) → Given (start-of c) → NoneUntil (bus-of (start-of c)) (c .goes-at .result .until)
 unfolding mayGo gapsMet headOf lengthOf passedOf waitingAt
-rests-from c g =
+none-from c g =
     let a = start-of c .args in
     let before : ℕ → Type 0 =
-    λ o. (t : ℕ) → t + 1 < c .goes-at .result .rest → (k : ℕ) → k < getD (a .lengths .now) o 0
+    λ o. (t : ℕ) → t + 1 < c .goes-at .result .until → (k : ℕ) → k < getD (a .lengths .now) o 0
     → mayGoBy (a .timing) t (a .at .last) (a .slots .now) (a .banks .now) o (getD (a .heads .now) o 0) (getD (a .passed .now) o 0) k ≡ false
     in
     subst before (owner-is (start-of c) g) (c .goes-at .ensures .1 .0 (scannable c g))
@@ -107,31 +107,27 @@ unfolding lengthOf
 length-is s g = ap (λ (o : ℕ). getD (s .args .lengths .now) o 0) (owner-is s g)
 
 -- where none may go by now, none goes
-resting : (b : Bus) (rest : ℕ) → Rests b rest → b .cycle + 1 < rest → ltb (goesAt b) (lengthOf (b .queues) (b .owner)) ≡ false
+none-goes : (b : Bus) (until : ℕ) → NoneUntil b until → b .cycle + 1 < until → ltb (goesAt b) (lengthOf (b .queues) (b .owner)) ≡ false
 unfolding goesAt
-resting b rest rests early =
+none-goes b until none-until early =
     let n = lengthOf (b .queues) (b .owner) in
-    first-some (mayGo b) n ∙ false-unless (some n (mayGo b)) (λ t. let it = some-found (mayGo b) n t in not-both (it .2) (rests (b .cycle) early (it .0) (it .1)))
+    first-some (mayGo b) n ∙ false-unless (some n (mayGo b)) (λ t. let it = some-found (mayGo b) n t in not-both (it .2) (none-until (b .cycle) early (it .0) (it .1)))
 
 -- ---- the outcomes, in the words of the contract
 
--- the bus with what an outcome left
-abbrev after : Bus → Driven → Bus
-after b d = record { timing = b .timing; cycle = b .cycle; owner = b .owner; elided = b .elided; queues = d .queues; flight = d .flight }
-
 -- a column command that goes out leaves the last activates, and so the tick before which none may go
-column-rests : (b : Bus) (rest : ℕ) → Rests b rest → Rests (after b (columnSent b)) rest
+column-none : (b : Bus) (until : ℕ) → NoneUntil b until → NoneUntil (leftBy b (columnSent b)) until
 unfolding mayGo gapsMet
-column-rests b rest rests = rests
+column-none b until none-until = none-until
 
 module _ (b : Bus) (d : Driven) (e : drive b ≡ d) where
-  carried : (r : Drove) → r .command ≡ commandNumber (d .wires) → Rests (after b d) (r .rest) → Carried b r (d .queues) (d .flight)
-  carried r k rests =
+  carried : (r : Drove) → r .command ≡ commandNumber (d .wires) → NoneUntil (leftBy b d) (r .until) → Carried b r (d .queues) (d .flight)
+  carried r k none-until =
       record {
         command = k ∙ sym (ap (λ (x : Driven). commandNumber (x .wires)) e);
         queues-are = sym (ap (λ (x : Driven). x .queues) e);
         flight-is = sym (ap (λ (x : Driven). x .flight) e);
-        rests = subst (λ (x : Driven). Rests (after b x) (r .rest)) (sym e) rests;
+        none-until = subst (λ (x : Driven). NoneUntil (leftBy b x) (r .until)) (sym e) none-until;
       }
 
 cast-place : tie.Need-cast-place
@@ -160,7 +156,7 @@ returns c g =
     let b = bus-of (test .before .before .before) in
     let offer = g .ready .due-offer (test .if1 .taken) in
     let fits : (dueColumn b + 1073741824) % 4294967296 ≡ dueColumn b + 1073741824 = omega (arith, offer-fits _ offer) in
-    carried b _ (drive-column b (ne-eqb _ 0 (test .if1 .taken))) _ (c .wrapping-add-u32 .ensures ∙ fits ∙ sym (ap columnNumber (word-back (dueColumn b) offer))) (column-rests b _ (g .rests))
+    carried b _ (drive-column b (ne-eqb _ 0 (test .if1 .taken))) _ (c .wrapping-add-u32 .ensures ∙ fits ∙ sym (ap columnNumber (word-back (dueColumn b) offer))) (column-none b _ (g .none-until))
 
 offset-allows-requires : tie.Need-offset-allows-requires
 offset-allows-requires c κs = search needs
@@ -184,10 +180,10 @@ returns-2 c g =
     let cannot : canActivate b ≡ false =
     ⊎-elim
     (λ out. and-fails-left offset goes (sym (allows asked g) ∙ not-true _ out))
-    (λ early. and-fails-right offset goes (resting b (s .args .at .rest) (g .rests) (ltb-true _ _ early)))
+    (λ early. and-fails-right offset goes (none-goes b (s .args .at .until) (g .none-until) (ltb-true _ _ early)))
     (or-cases _ _ (c .if2 .taken))
     in
-    carried b _ (drive-nothing b (none-due test) cannot) _ refl (g .rests)
+    carried b _ (drive-nothing b (none-due test) cannot) _ refl (g .none-until)
 
 mul-head : tie.Need-mul-head
 mul-head c = search needs
@@ -218,7 +214,7 @@ returns-3 c g =
     let s = start-of at in
     let b = bus-of s in
     let none = le-ltb (goesAt b) (lengthOf (queues-of s) (s .args .at .owner)) (omega (arith, place-is at g, length-is s g, c .if3 .taken)) in
-    carried b _ (drive-nothing b (none-due (else1-of at)) (and-fails-right (offsetAllows (s .args .timing) (s .args .at .elided) (s .args .at .cycle)) (ltb (goesAt b) (lengthOf (queues-of s) (s .args .at .owner))) none)) _ refl (rests-from at g)
+    carried b _ (drive-nothing b (none-due (else1-of at)) (and-fails-right (offsetAllows (s .args .timing) (s .args .at .elided) (s .args .at .cycle)) (ltb (goesAt b) (lengthOf (queues-of s) (s .args .at .owner))) none)) _ refl (none-from at g)
 
 waiting-at-requires : tie.Need-waiting-at-requires
 waiting-at-requires c κs = omega arith
@@ -254,14 +250,14 @@ returns-4 c g =
     in
     let request : SoundRequest (read .waiting-at .result) = subst SoundRequest (sym word) (g .ready .sound (goesAt b) waits) in
     let offer = subst (λ (w : ℕ). isOffer w ≡ true) word (request .offer) in
-    let right = carried b _ e (record { command = going b; last = 0; rest = 0 }) (sym (word-back (going b) offer)) (λ t early. absurd (not-suc-le-zero early)) in
+    let right = carried b _ e (record { command = going b; last = 0; until = 0 }) (sym (word-back (going b) offer)) (λ t early. absurd (not-suc-le-zero early)) in
     record {
       command = word ∙ right .command;
       queues-are = removed ∙ ap₂ (dequeue (queues-of s)) owner place ∙ right .queues-are;
       flight-is = c .activate .ensures (g .ready .ticks-left, request .bank, request .kind)
           ∙ ap (λ (w : ℕ). activated (a .timing) (a .columns .now) (a .responses .now) (a .banks .now) w (a .at .cycle)) word
           ∙ right .flight-is;
-      rests = right .rests;
+      none-until = right .none-until;
     }
 
 pub drive-spec : {M : Type 1} → statement M

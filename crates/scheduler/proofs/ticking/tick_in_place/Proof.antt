@@ -20,7 +20,7 @@ use Rattle.scheduler.specs.InPlace.{stateOf, startOf}
 use Rattle.queues.specs.declared.Queues.{Queues}
 use Rattle.flight.specs.declared.Flight.{Flight}
 use Rattle.state.specs.declared.State.{State}
-use Rattle.wires.specs.InPlace.{Rests, leftBy, Carried}
+use Rattle.wires.specs.InPlace.{NoneUntil, leftBy, Carried}
 use Rattle.rules.proofs.Step.{turn-owner}
 use Rattle.rules.proofs.Range.{Ranged, ranged, BusRange, bus-range, ready}
 use Rattle.scheduler.proofs.InPlace.{nothing-known}
@@ -32,11 +32,11 @@ use Rattle.scheduler.proofs.ticking.tick_in_place.Tie as tie
 abbrev start-turned : tie.After-turns-at → tie.Start
 start-turned c = c .before .before .before .before .before
 
-abbrev at-rest : tie.After-drive → tie.After-rest-of
-at-rest c = c .before .before .before .before .before .before .before .before
+abbrev at-until : tie.After-drive → tie.After-until-of
+at-until c = c .before .before .before .before .before .before .before .before
 
 abbrev at-turned : tie.After-drive → tie.After-turns-at
-at-turned c = at-rest c .before
+at-turned c = at-until c .before
 
 abbrev start-driven : tie.After-drive → tie.Start
 start-driven c = start-turned (at-turned c)
@@ -86,23 +86,23 @@ queues-driven c = queuesOf (c .drive .last .1 .1 .0) (c .drive .last .1 .1 .1 .0
 abbrev flight-driven : tie.After-drive → Flight
 flight-driven c = flightOf (c .drive .last .1 .1 .1 .1 .1 .1 .0) (c .drive .last .1 .1 .1 .1 .1 .1 .1 .0) (c .drive .last .1 .1 .1 .1 .1 .1 .1 .1 .0) (c .drive .result .last)
 
--- before the tick that goes along none of this turn's owner's requests may go: where the turn starts it is 0, and where it goes on the turns are what they were
-rests-given : (c : tie.After-drive) → Rests (bus (at-turned c)) (at-rest c .rest-of .result)
+-- before the tick `until` none of this turn's owner's requests may go: where the turn starts it is 0, and where it goes on the turns are what they were
+none-given : (c : tie.After-drive) → NoneUntil (bus (at-turned c)) (at-until c .until-of .result)
 unfolding turnsAt turnStarts
-rests-given c =
+none-given c =
     let at = at-turned c in
     let s = start-driven c in
     let p = s .args .p in
     let offset = s .args .m .offset in
-    let rest = s .args .m .rest in
-    let result = at-rest c .rest-of .ensures in
+    let until = s .args .m .until in
+    let result = at-until c .until-of .ensures in
     let starts = eqb (s .args .m .cycle % p .timing .turn) 0 in
     ⊎-elim
-    (λ start. nothing-known (bus at) (at-rest c .rest-of .result) (result ∙ ap (λ (b : Bool). cond b 0 rest) start))
+    (λ start. nothing-known (bus at) (at-until c .until-of .result) (result ∙ ap (λ (b : Bool). cond b 0 until) start))
     (λ goes-on.
-    let same : at-rest c .rest-of .result ≡ rest = result ∙ ap (λ (b : Bool). cond b 0 rest) goes-on in
+    let same : at-until c .until-of .result ≡ until = result ∙ ap (λ (b : Bool). cond b 0 until) goes-on in
     let stays : turned at ≡ record { turns = given s .turns; shown = 0 } = turned-right at ∙ on-false starts _ _ (ap (λ (k : ℕ). eqb k 0) (sym (s .pre .0 .in-step)) ∙ goes-on) in
-    subst (Rests (bus at)) (sym same) (subst (λ (x : TurnStart). Rests (busAt p (given s) (x .turns)) rest) (sym stays) (s .pre .0 .rests)))
+    subst (NoneUntil (bus at)) (sym same) (subst (λ (x : TurnStart). NoneUntil (busAt p (given s) (x .turns)) until) (sym stays) (s .pre .0 .none-until)))
     (either (eqb offset 0))
 
 -- what the second step in place promises of it
@@ -110,7 +110,7 @@ promised : (c : tie.After-drive) → Carried (bus (at-turned c)) (c .drive .resu
 promised c =
     let at = at-turned c in
     let s = start-turned at in
-    c .drive .ensures (record { ready = ready (s .args .p .classes) (bus at) (bus-fit at) (s .pre .1); in-step = s .pre .0 .in-step; rests = rests-given c })
+    c .drive .ensures (record { ready = ready (s .args .p .classes) (bus at) (bus-fit at) (s .pre .1); in-step = s .pre .0 .in-step; none-until = none-given c })
 
 flight-right : (c : tie.After-drive) → flight-driven c ≡ right-drive (start-driven c) .flight
 flight-right c = promised c .flight-is ∙ ap (λ (d : Driven). d .flight) (driven-right c)
@@ -137,8 +137,8 @@ turns-at-requires c κs =
     let s = c .before .before .before .before in
     (s .pre .0 .lent, s .pre .0 .in-step, s .pre .1, fit s .turns .left-within .sixteen, fit s .turns .pointers-fit .sixteen)
 
-rest-of-requires : tie.Need-rest-of-requires
-rest-of-requires c κs = search needs
+until-of-requires : tie.Need-until-of-requires
+until-of-requires c κs = search needs
 
 drive-requires : tie.Need-drive-requires
 drive-requires c κs = search needs
@@ -168,11 +168,11 @@ returns c =
           (sent .0 ∙ ap (λ (f : Flight). dueAt (f .responses) t) (flight-right at)),
       (
         record { in-step = refl; same-bottom = refl; same-free = refl; same-count = refl },
-        subst (λ (x : TurnStart). Rests (leftBy (busAt (s .args .p) (given s) (x .turns))) (at .drive .result .rest)) (turned-right (at-turned at)) (promised at .rests),
+        subst (λ (x : TurnStart). NoneUntil (leftBy (busAt (s .args .p) (given s) (x .turns)) (drive (busAt (s .args .p) (given s) (x .turns)))) (at .drive .result .until)) (turned-right (at-turned at)) (promised at .none-until),
       ),
     )
 
 pub tick-in-place-spec : {M : Type 1} → statement M
 tick-in-place-spec =
     tie.close
-    (tie.spec turns-at-requires rest-of-requires drive-requires take-due-requires next-moment-requires returns)
+    (tie.spec turns-at-requires until-of-requires drive-requires take-due-requires next-moment-requires returns)

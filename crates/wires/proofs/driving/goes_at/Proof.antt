@@ -1,4 +1,4 @@
--- `wires::driving::goes_at` meets its contract. The invariant: no request before the k-th may go, none of them before the tick `rest`, and the look goes past the oldest only where fewer than may have
+-- `wires::driving::goes_at` meets its contract. The invariant: no request before the k-th may go, none of them before the tick `until`, and the look goes past the oldest only where fewer than may have
 -- passed it.
 -- Assumes nothing.
 use mathlib.Core.Path.{_≡_, sym, ap, ap₂, _∙_, subst}
@@ -68,13 +68,13 @@ module _ (timing : Timing) (last : ℕ) (slots banks : List ℕ) (class head len
   none t fails = sym (first-none (may t) length (false-unless (some length (may t)) (λ e. let it = some-found (may t) length e in not-both (it .2) (fails (it .0) (it .1)))))
 
 abbrev Inv-loop : tie.InvT-loop
-Inv-loop timing cycle last slots banks class head length passed read′ write′ now first′ rest₀ k₀ rest k =
+Inv-loop timing cycle last slots banks class head length passed read′ write′ now first′ until₀ k₀ until k =
     (Scannable slots class head length
-    → Missed (may timing last slots banks class head length passed cycle) length k × ((i : ℕ) → i < k → rest ≤ opens timing last slots banks class head length passed i))
+    → Missed (may timing last slots banks class head length passed cycle) length k × ((i : ℕ) → i < k → until ≤ opens timing last slots banks class head length passed i))
     × (0 < k → passed < 15)
 
 abbrev μ-loop : tie.MeasureT-loop
-μ-loop timing cycle last slots banks class head length passed read′ write′ now first′ rest₀ k₀ rest k = 8 - k
+μ-loop timing cycle last slots banks class head length passed read′ write′ now first′ until₀ k₀ until k = 8 - k
 
 kind-opens-requires : tie.Need-kind-opens-requires Inv-loop μ-loop
 kind-opens-requires c κs = search needs

@@ -2,7 +2,6 @@
 -- Assumes nothing.
 use native.Mathlib.Omega.{arith}
 use borrow.Author.Needs.{needs}
-use lib.ListN.{getD}
 use Rattle.queues.specs.Waiting.{place}
 use Rattle.queues.proofs.Waiting.{of-class}
 use Rattle.wires.proofs.driving.waiting_at.Statement.{statement}

@@ -1,11 +1,11 @@
 -- `wires::queueing::dequeue` meets its contract: the next place of a ring is that of the head's remainder, and the rest is what its parts promise.
 -- Assumes nothing.
-use mathlib.Core.Path.{_≡_, ap, _∙_}
-use Prim.Native.Nat.{ℕ, _+_, _%_}
+use mathlib.Core.Path.{_≡_}
+use Prim.Native.Nat.{_+_, _%_}
 use native.Mathlib.Omega.{arith}
-use lib.ListN.{getD, set}
+use lib.ListN.{getD}
 use borrow.Author.Needs.{needs}
-use Rattle.queues.specs.Waiting.{headOf, lengthOf, passedOf, queuesOf}
+use Rattle.queues.specs.Waiting.{headOf, lengthOf, passedOf}
 use Rattle.rules.specs.Queue.{dequeue}
 use Rattle.wires.proofs.queueing.dequeue.Statement.{statement}
 use Rattle.wires.proofs.queueing.dequeue.Tie as tie

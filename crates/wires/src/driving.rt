@@ -121,6 +121,12 @@ pub(crate) fn goes_at(
         → mayGoBy timing t last (now (slots .entry)) (now (banks .entry)) class head passed k ≡ false) ⌝ }
     ensures passes { λ r. ⌜ (r .place < length → 0 < r .place → passed < mostPassed) ⌝ }
 {
+    if length == 0 {
+        return Found {
+            place: 0,
+            until: NEVER,
+        };
+    }
     let read = decisions::kind_opens(timing, last, 0);
     let write = decisions::kind_opens(timing, last, 1);
     let now = cycle as u64 + 1;

@@ -92,7 +92,7 @@ earlier-requires c κs = search needs
 
 -- the start, seen from where both ticks are known; and from the loop
 abbrev start-known : tie.After-earlier Inv-loop μ-loop → tie.Start Inv-loop μ-loop
-start-known c = c .before .before .before
+start-known c = c .before .before .before .before
 
 abbrev known : tie.At-loop Inv-loop μ-loop → tie.After-earlier Inv-loop μ-loop
 known c = c .before .before
@@ -125,13 +125,21 @@ opens-at s = opens (s .args .timing) (s .args .last) (s .args .slots .now) (s .a
 none-now : (s : tie.Start Inv-loop μ-loop) → ((k : ℕ) → k < s .args .length → may-go s (s .args .cycle) k ≡ false) → s .args .length ≡ first (s .args .length) (may-go s (s .args .cycle))
 none-now s fails = none (s .args .timing) (s .args .last) (s .args .slots .now) (s .args .banks .now) (s .args .class) (s .args .head) (s .args .length) (s .args .passed) (s .args .cycle) fails
 
+-- nothing waits
+returns : tie.Need-returns Inv-loop μ-loop
+returns c =
+    let s = c .before in
+    let none : s .args .length ≡ 0 = c .if1 .taken in
+    let fails : (t k : ℕ) → k < s .args .length → may-go s t k ≡ false = λ t k waits. absurd (not-suc-le-zero (subst (λ (n : ℕ). k < n) none waits)) in
+    (λ g. sym none ∙ none-now s (fails (s .args .cycle)), (λ g t early. fails t, λ some past. absurd (not-suc-le-zero past)))
+
 -- before its tick a request may not go
 not-yet : (s : tie.Start Inv-loop μ-loop) → Given s → (t k : ℕ) → k < s .args .length → t + 1 < opens-at s k → may-go s t k ≡ false
 not-yet s g = shut (s .args .timing) (s .args .last) (s .args .slots .now) (s .args .banks .now) (s .args .class) (s .args .head) (s .args .length) (s .args .passed) g
 
 -- the last activate of all holds both kinds back
-returns : tie.Need-returns Inv-loop μ-loop
-returns c =
+returns-2 : tie.Need-returns-2 Inv-loop μ-loop
+returns-2 c =
     let at = c .before in
     let s = start-known at in
     let a = s .args in
@@ -139,7 +147,7 @@ returns c =
     let fails : Given s → (t : ℕ) → t + 1 < at .earlier .result → (k : ℕ) → k < a .length → may-go s t k ≡ false =
     λ g t early k waits. both-shut (a .timing) (a .last) (a .slots .now) (a .banks .now) (a .class) (a .head) (a .length) (a .passed) g t k waits (subst (λ (n : ℕ). t + 1 < n) first-is early)
     in
-    (λ g. none-now s (fails g (a .cycle) (c .if1 .taken)), (fails, λ beyond. absurd (lt-irrefl (a .length) beyond)))
+    (λ g. none-now s (fails g (a .cycle) (c .if2 .taken)), (fails, λ beyond. absurd (lt-irrefl (a .length) beyond)))
 
 -- ---- what the loop finds
 
@@ -172,8 +180,8 @@ waiting-at-requires c κs = search needs
 opens-of-requires : tie.Need-opens-of-requires Inv-loop μ-loop
 opens-of-requires c κs = search needs
 
-returns-2 : tie.Need-returns-2 Inv-loop μ-loop
-returns-2 c =
+returns-3 : tie.Need-returns-3 Inv-loop μ-loop
+returns-3 c =
     let at = c .before in
     let s = start-of at in
     let a = s .args in
@@ -185,7 +193,7 @@ returns-2 c =
       λ g.
           found-at _ (a .length) k (inv .0 g .0) (waits at)
           (may-is (a .timing) (a .last) (a .slots .now) (a .banks .now) (a .class) (a .head) (a .length) (a .passed) g (a .cycle) k (waits at)
-          ∙ and-both passes (le-leb (opens-at s k) (a .cycle + 1) (subst (λ (n : ℕ). n ≤ a .cycle + 1) (opens-is at g) (c .if2 .taken)))),
+          ∙ and-both passes (le-leb (opens-at s k) (a .cycle + 1) (subst (λ (n : ℕ). n ≤ a .cycle + 1) (opens-is at g) (c .if3 .taken)))),
       (λ g t early. absurd (not-suc-le-zero early), λ waits past. inv .1 past),
     )
 
@@ -193,14 +201,14 @@ earlier-requires-2 : tie.Need-earlier-requires-2 Inv-loop μ-loop
 earlier-requires-2 c κs = search needs
 
 -- so many have passed the oldest that none but it may go
-returns-3 : tie.Need-returns-3 Inv-loop μ-loop
-returns-3 c =
+returns-4 : tie.Need-returns-4 Inv-loop μ-loop
+returns-4 c =
     let shut = c .before .before in
     let at = shut .before in
     let s = start-of at in
     let a = s .args in
     let k = at-of at in
-    let many = c .if3 .taken in
+    let many = c .if4 .taken in
     let oldest : k ≡ 0 = ⊎-elim (λ past. absurd (lt-irrefl 15 (omega (arith, loop-of at .loop .inv .1 past, many)))) (λ first. omega (arith, first)) (lt-or-ge 0 k) in
     let fails : Given s → (t : ℕ) → t + 1 < at .opens-of .result → (i : ℕ) → i < a .length → may-go s t i ≡ false =
     λ g t early i l.
@@ -209,7 +217,7 @@ returns-3 c =
     (λ first. let same : k ≡ i = omega (arith, oldest, first) in subst (λ (n : ℕ). may-go s t n ≡ false) same (not-it at g t early))
     (lt-or-ge 0 i)
     in (
-      λ g. none-now s (fails g (a .cycle) (omega (arith, shut .if2 .left))),
+      λ g. none-now s (fails g (a .cycle) (omega (arith, shut .if3 .left))),
       (λ g t early. fails g t (omega (arith, early, c .before .earlier2 .ensures)), λ beyond. absurd (lt-irrefl (a .length) beyond)),
     )
 
@@ -230,19 +238,19 @@ loop-again c =
     let inv = loop-of at .loop .inv in
     let least = c .before .earlier2 .ensures in (
       λ g. (
-        missed-more _ (s .args .length) k (inv .0 g .0) (waits at) (not-it at g (s .args .cycle) (omega (arith, shut .if2 .left))),
+        missed-more _ (s .args .length) k (inv .0 g .0) (waits at) (not-it at g (s .args .cycle) (omega (arith, shut .if3 .left))),
         λ i l.
             ⊎-elim
             (λ here. subst (λ (n : ℕ). c .before .earlier2 .result ≤ opens-at s n) (sym here) (omega (arith, least, opens-is at g)))
             (λ before. omega (arith, least, inv .0 g .1 i before))
             (at-or-below (subst (λ (n : ℕ). i < n) (add-one k) l)),
       ),
-      λ some. omega (arith, c .if3 .left),
+      λ some. omega (arith, c .if4 .left),
     )
 
 -- all have been looked at, since the queue is no longer than its ring
-returns-4 : tie.Need-returns-4 Inv-loop μ-loop
-returns-4 c =
+returns-5 : tie.Need-returns-5 Inv-loop μ-loop
+returns-5 c =
     let loop = c .before in
     let s = start-known (known loop) in
     let a = s .args in
@@ -261,18 +269,19 @@ goes-at-spec =
     (tie.spec
     Inv-loop
     μ-loop
+    returns
     kind-opens-requires
     kind-opens-requires-2
     add-now
     earlier-requires
-    returns
+    returns-2
     loop-holds
     waiting-at-requires
     opens-of-requires
-    returns-2
-    earlier-requires-2
     returns-3
+    earlier-requires-2
+    returns-4
     add-k
     loop-less
     loop-again
-    returns-4)
+    returns-5)

@@ -213,7 +213,14 @@ pub(crate) fn tick_in_place(
         banks,
     );
     let response = flight::take_due(m.cycle, responses);
-    let moment = next_moment(timing, m, owned.owner, owned.elided, drove.last, drove.until);
+    let moment = next_moment(
+        timing,
+        m,
+        owned.owner,
+        owned.elided,
+        drove.last,
+        drove.until,
+    );
     Called {
         moment,
         status: 0,

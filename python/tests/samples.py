@@ -3,7 +3,7 @@
 from vigambul.draws import Draws
 from vigambul.folders import folder_at, run_folder
 from vigambul.formats import BANKS, COLUMN, Request, bytes_of
-from vigambul.policies import Policy
+from vigambul.policies import Policy, class_mask
 
 FIVE_NAMES = ("base", "alice", "bob", "audit", "guest")
 # Alice and Bob may flow to the audit, the guest stands aside.
@@ -25,7 +25,7 @@ def an_order(draws, classes):
     rows = [0] * classes
     for number in range(classes):
         for other in below[number]:
-            rows[places[other]] |= 1 << places[number]
+            rows[places[other]] |= class_mask(places[number])
     return rows
 
 

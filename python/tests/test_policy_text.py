@@ -3,7 +3,7 @@
 import random
 
 from vigambul import build
-from vigambul.policies import TIMING_KEYS, Names, policy_of
+from vigambul.policies import TIMING_KEYS, Names, class_mask, policy_of
 from vigambul.policy_text import read_policy_text, text_of
 
 from .support import EXAMPLES, Case, vig
@@ -119,7 +119,7 @@ MISTAKES = {
 
 def closed(n, pairs):
     """The rows in which each class may flow to itself and, for each pair, the first to the second, closed."""
-    rows = [1 << i for i in range(n)]
+    rows = [class_mask(i) for i in range(n)]
     for _ in range(n):
         for i, j in pairs:
             rows[i] |= rows[j]

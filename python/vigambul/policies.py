@@ -26,6 +26,11 @@ BODIES_START = 16
 ENTRY_KINDS = ("order", "turns", "timing")
 
 
+def class_mask(i):
+    """The mask of a class, 0 to 15: its bit alone, as in a row (W-205)."""
+    return 1 << i
+
+
 @dataclass
 class Policy:
     """The numbers of a policy. Row i has bit j set if class i may flow to class j."""

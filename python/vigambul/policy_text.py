@@ -18,7 +18,7 @@ from dataclasses import dataclass, field
 
 from .clock import CLOCK_WORDS, TIME_WORDS, Converted, period_of, time_of
 from .formats import CLASSES
-from .policies import NAME, TIMING, TIMING_KEYS, Names, Policy
+from .policies import NAME, TIMING, TIMING_KEYS, Names, Policy, class_mask
 from .policy_ranges import GAP_KEYS, HIGHEST_DEAD, LONGEST_EPOCH, TIMING_RANGES
 from .toml_text import nearest, read_toml, value_words
 
@@ -286,10 +286,10 @@ class _Reader:
     def text(self, epoch, timing, above, minimums, numbers):
         """The policy, once there are no mistakes. A class may flow to itself and to each class that reaches it by `above`."""
         by_number = sorted(above, key=numbers.get)
-        rows = [1 << i for i in range(len(by_number))]
+        rows = [class_mask(i) for i in range(len(by_number))]
         for name in by_number:
             for below in _reach(name, above):
-                rows[numbers[below]] |= 1 << numbers[name]
+                rows[numbers[below]] |= class_mask(numbers[name])
         policy = Policy(rows, epoch, [minimums[name] for name in by_number], [timing[key] for key in TIMING_KEYS])
         return PolicyText(policy, Names({numbers[name]: name for name in by_number}), self.clock, self.converted)
 

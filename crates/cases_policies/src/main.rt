@@ -1,6 +1,6 @@
-// The cases that document 01 says are to be run, of what goes by a policy alone: policy files, stored policies, and extracts of logs. They stand in the script, the file
-// stdin, a case to a line; each prints a line or more with its name and the answer. The lines are held against the stored output, and the Rust model's tests hold the
-// stored output against the model's own answers.
+// The cases that document 01 says are to be run, of what goes by a policy alone: policy files, stored policies, and extracts of logs; and the masks of W-205, which go by
+// a number. They stand in the script, the file stdin, a case to a line; each prints a line or more with its name and the answer. The lines are held against the stored
+// output, and the Rust model's tests hold the stored output against the model's own answers.
 
 ghost use Prim.Native.Nat.{_≤_};
 use libc::STDIN_FILENO;
@@ -11,6 +11,7 @@ use script::List;
 
 mod extracts;
 mod policies;
+mod sets;
 
 // What a case goes by: the numbers of the policy file, of the trace, of the log and of its own line, and its policy.
 pub(crate) struct Case {
@@ -61,6 +62,8 @@ fn answer(text: &[u8], l: Line, c: Case) {
         b'x' => extracts::sized(c),
         b'g' => extracts::seen(text, l, c, c.log),
         b'm' => extracts::seen_of_run(text, l, c),
+        b'a' => sets::alone(c),
+        b'b' => sets::below(c),
         _ => {}
     }
 }

@@ -4,3 +4,5 @@
 pub mod Masks
 -- of the numbers that the classes of a set have
 pub mod Numbered
+-- of the two tables of masks
+pub mod Tables

@@ -5,20 +5,16 @@ use mathlib.Core.Path.{_≡_, refl, sym, ap, ap₂, _∙_, subst}
 use mathlib.Core.Logic.{_⊎_, inl, inr, ⊎-elim}
 use mathlib.Core.Bool.{Bool, true, false, cond, not, _&&_, _||_}
 use Prim.Native.Nat.{ℕ, zero, suc, _+_, _-_, _*_, _/_, _%_, _^_, _≤_, _<_, zero-le, suc-le-suc, min}
-use native.Mathlib.Nat.{le-refl, lt-of-lt-of-le, le-of-suc-le-suc, mod-lt, mod-eq-of-lt, div-eq-of-lt, div-add-mod', one-mul, pow-suc, not-suc-le-zero, lt-irrefl}
+use native.Mathlib.Nat.{le-refl, lt-of-lt-of-le, le-of-suc-le-suc, mod-lt, mod-eq-of-lt, div-eq-of-lt, div-add-mod', pow-suc, not-suc-le-zero, lt-irrefl}
 use native.Mathlib.Omega.{arith}
 use borrow.Author.Tests.{eq-eqb, ne-eqb, eqb-true, lt-ltb, le-ltb}
 use lib.Dec.{eqb, ltb, lit<}
 use lib.Bits.{bitOr, bitXor, or-shr, or-mod, or-lt, xor-shr, xor-mod, xor-lt}
-use lib.Pow.{pow-pos, pow-mono, pow-lt, field, mod-mod-pow, low, high, shr-lt, shl-exact}
+use lib.Pow.{pow-pos, pow-mono, pow-lt, field, mod-mod-pow, low, high, shr-lt}
 use Rattle.basics.specs.Below.{sum, setOf}
 use Rattle.masks.specs.Mask.{member, includes, difference, classMask, belowMask}
 use Rattle.basics.proofs.Truth.{either, not-both, same-truth, implies, implication, or-right, or-implied}
 use Rattle.basics.proofs.Below.{lt-or-ge, at-or-below, every-at, every-all}
-
--- a one shifted left by less than 16 places: nothing is shifted out of 16 bits
-pub one-shl : (k : ℕ) → k < 16 → (1 * 2 ^ k) % 2 ^ 16 ≡ 2 ^ k
-one-shl k h = shl-exact 1 k 16 (lit< tt) (omega arith) ∙ one-mul (2 ^ k)
 
 -- ---- single bits
 

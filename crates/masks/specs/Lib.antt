@@ -2,3 +2,5 @@
 
 -- sets of classes as 16-bit numbers, as in a row of the order
 pub mod Mask
+-- W-205: the two tables of masks, and what each holds
+pub mod Tables

@@ -3,21 +3,63 @@
 ghost use mathlib.Core.Path.{_≡_};
 ghost use Rattle.masks.specs.Mask.{member, includes, difference, size, nth, classMask, belowMask};
 
+// W-205: the masks of the classes. Entry i holds bit i alone (`BitAlone` in specs/Tables.antt).
+const CLASS_MASKS: [u16; 16] = [
+    0x0001,
+    0x0002,
+    0x0004,
+    0x0008,
+    0x0010,
+    0x0020,
+    0x0040,
+    0x0080,
+    0x0100,
+    0x0200,
+    0x0400,
+    0x0800,
+    0x1000,
+    0x2000,
+    0x4000,
+    0x8000,
+];
+
+// W-205: the masks of all classes below a number. Entry i is that of number i + 1: it holds bits 0 to i and no other (`BitsBelow`).
+const BELOW_MASKS: [u16; 16] = [
+    0x0001,
+    0x0003,
+    0x0007,
+    0x000F,
+    0x001F,
+    0x003F,
+    0x007F,
+    0x00FF,
+    0x01FF,
+    0x03FF,
+    0x07FF,
+    0x0FFF,
+    0x1FFF,
+    0x3FFF,
+    0x7FFF,
+    0xFFFF,
+];
+
 // The mask of a class: its bit alone. There are classes 0 to 15; what a greater number gives is open in document 01, and it is the empty set here.
 pub fn class_mask(class: usize) -> u16
     ensures { λ r. ⌜ r ≡ classMask class ⌝ }
 {
-    if class < 16 { 1u16 << class } else { 0 }
+    if class < 16 { CLASS_MASKS[class] } else { 0 }
 }
 
 // The mask of all classes below a number of 1 to 16. What other numbers give is open in document 01: here 0 gives the empty set, and a number above 16 all sixteen.
 pub fn below_mask(number: usize) -> u16
     ensures { λ r. ⌜ r ≡ belowMask number ⌝ }
 {
-    if number < 16 {
-        (1u16 << number) - 1
+    if number == 0 {
+        0
+    } else if number <= 16 {
+        BELOW_MASKS[number - 1]
     } else {
-        65535
+        BELOW_MASKS[15]
     }
 }
 

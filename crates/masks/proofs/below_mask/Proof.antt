@@ -1,38 +1,55 @@
--- `masks::below_mask` meets its contract: below 16 the smaller of the number and 16 is the number, and from there on 16.
+-- `masks::below_mask` meets its contract: the code's table is `belowMasks`, and the entry before a number is what the formula gives of that number. Past 16 the formula
+-- gives what it gives of 16.
 -- Assumes nothing.
-use mathlib.Core.Path.{_≡_, _∙_, ap}
-use Prim.Native.Nat.{ℕ, _-_, _^_, min}
+use mathlib.Core.Path.{_≡_, sym, ap, _∙_}
+use Prim.Native.Nat.{ℕ, _+_, _-_, _^_, min}
 use native.Mathlib.Omega.{arith}
 use borrow.Author.Needs.{needs}
-use lib.Pow.{pow-pos}
+use lib.Dec.{lit<}
 use Rattle.masks.specs.Mask.{belowMask}
-use Rattle.masks.proofs.Masks.{one-shl}
+use Rattle.masks.specs.Tables.{belowMasks}
+use Rattle.masks.proofs.Tables.{below-masks}
 use Rattle.masks.proofs.below_mask.Statement.{statement}
 use Rattle.masks.proofs.below_mask.Tie as tie
 
-cast-result : tie.Need-cast-result
-cast-result c = search needs
-
-shl-result : tie.Need-shl-result
-shl-result c = search needs
-
 sub-result : tie.Need-sub-result
-sub-result c =
-    let start = c .before in
-    rw (one-shl (start .args .number) (c .if1 .taken)) (pow-pos (start .args .number))
+sub-result c = search needs
+
+mul-result : tie.Need-mul-result
+mul-result c = search needs
+
+array-read-result : tie.Need-array-read-result
+array-read-result c = search needs
+
+array-read-result-2 : tie.Need-array-read-result-2
+array-read-result-2 c = search needs
 
 returns : tie.Need-returns
 unfolding belowMask
-returns c =
-    let n = c .before .args .number in
-    let small : n ≡ min n 16 = omega arith in
-    ap (λ (m : ℕ). m - 1) (one-shl n (c .if1 .taken)) ∙ ap (λ (k : ℕ). 2 ^ k - 1) small
+returns c = ap (λ (n : ℕ). 2 ^ min n 16 - 1) (sym (c .if1 .taken))
 
 returns-2 : tie.Need-returns-2
-unfolding belowMask
+unfolding belowMasks
 returns-2 c =
-    let large : 16 ≡ min (c .before .args .number) 16 = omega arith in
-    ap (λ (k : ℕ). 2 ^ k - 1) large
+    let n = c .before .before .args .number in
+    let back : n - 1 + 1 ≡ n = omega (arith, c .before .if1 .left) in
+    below-masks .formula (n - 1) (omega (arith, c .before .if1 .left)) ∙ ap belowMask back
+
+returns-3 : tie.Need-returns-3
+unfolding belowMasks belowMask
+returns-3 c =
+    let n = c .before .before .args .number in
+    let capped : 16 ≡ min n 16 = omega arith in
+    below-masks .formula 15 (lit< tt) ∙ ap (λ (k : ℕ). 2 ^ k - 1) capped
 
 pub below-mask-spec : {M : Type 1} → statement M
-below-mask-spec = tie.close (tie.spec cast-result shl-result sub-result returns returns-2)
+below-mask-spec =
+    tie.close
+    (tie.spec
+    sub-result
+    mul-result
+    array-read-result
+    array-read-result-2
+    returns
+    returns-2
+    returns-3)

@@ -140,6 +140,7 @@ impl Coverage {
             .chain((0..31).map(lone_bit_name))
             .chain(STRAY_BITS.iter().map(|&bit| stray_bit_name(bit)))
             .chain((16..32).map(high_class_name))
+            .chain(neighbours().map(|(seen, hidden)| neighbours_name(seen, hidden)))
             .chain(CASES.iter().map(|name| name.to_string()))
             .map(|name| (name, Count { met: 0, needed: 1 }));
         let damages = DAMAGES.iter().map(|damage| {
@@ -191,6 +192,7 @@ impl Coverage {
         self.add_policy(&policy);
         let trace = read_trace(&folder.trace);
         self.met(&left_over_name(trace.left_over));
+        self.add_neighbours(&policy, &trace.numbers);
         let (mut state, _) = state::fresh(&policy);
         let mut taken = vec![Taken::default(); policy.class_count()];
         for &number in &trace.numbers {
@@ -244,6 +246,26 @@ impl Coverage {
             timing.column_delay + 1 == timing.response_delay,
             "column delay one less than the answer delay",
         );
+    }
+
+    /// Counts neighbouring classes of which one may flow to some third class, and the other may
+    /// not and has offers in the trace: an extract for the third would keep those if W-205's
+    /// mask of the one had the other's bit too.
+    fn add_neighbours(&mut self, policy: &Policy, trace: &[u32]) {
+        let offered = |class: usize| {
+            let of_class = |&number: &u32| match Word::of(number) {
+                Word::Offer(request) => usize::from(request.class) == class,
+                _ => false,
+            };
+            trace.iter().any(of_class)
+        };
+        let n = policy.class_count();
+        for (seen, hidden) in neighbours().filter(|&(seen, hidden)| seen.max(hidden) < n) {
+            let mut others = (0..n).filter(|&class| class != seen);
+            let told =
+                others.any(|class| policy.flows(seen, class) && !policy.flows(hidden, class));
+            self.met_if(told && offered(hidden), &neighbours_name(seen, hidden));
+        }
     }
 
     fn add_call(&mut self, policy: &Policy, state: &mut State, taken: &mut [Taken], number: u32) {
@@ -646,6 +668,16 @@ fn lone_bit_name(bit: u32) -> String {
 /// An offer that this bit alone makes malformed.
 fn stray_bit_name(bit: u32) -> String {
     format!("an offer with bit {bit}")
+}
+
+/// Class numbers side by side, both ways round.
+fn neighbours() -> impl Iterator<Item = (usize, usize)> {
+    (1..MOST_CLASSES).flat_map(|class| [(class - 1, class), (class, class - 1)])
+}
+
+/// A class that another one sees, beside one that it does not see.
+fn neighbours_name(seen: usize, hidden: usize) -> String {
+    format!("class {seen:02} seen beside class {hidden:02} hidden")
 }
 
 /// An offer of a class that no policy has, but sound apart from it.

@@ -1,5 +1,6 @@
 //! "The extract for class L": what a class may learn from a log.
 
+use crate::planted::Planted;
 use crate::policy::Policy;
 use crate::refusal::Refusal;
 use crate::trace::{class_bits, Word, LINE};
@@ -19,18 +20,20 @@ pub fn extract(
     log: &[u32],
     out: &mut [u32],
 ) -> (usize, Option<Refusal>) {
-    match extract_or_refuse(policy, class, trace, log, out) {
+    match extract_planted(policy, class, trace, log, out, Planted::Nothing) {
         Ok(count) => (count, None),
         Err(refusal) => (0, Some(refusal)),
     }
 }
 
-fn extract_or_refuse(
+/// The same extract, with a wrong rule in place or none.
+pub fn extract_planted(
     policy: &Policy,
     class: usize,
     trace: &[u32],
     log: &[u32],
     out: &mut [u32],
+    planted: Planted,
 ) -> Result<usize, Refusal> {
     // The policy is all that 13 can ask of an extract: no state is handed in.
     if !policy.in_range() {
@@ -45,7 +48,7 @@ fn extract_or_refuse(
     }
     // 16: "extract shorter than what is kept". Counted first, since a refused
     // extract writes nothing.
-    let kept = |&&number: &&u32| is_kept(policy, class, number);
+    let kept = |&&number: &&u32| keeps(policy, class, number, planted);
     let count = LINE * trace.iter().filter(kept).count();
     if out.len() < count {
         return Err(Refusal::ExtractTooShort);
@@ -53,40 +56,59 @@ fn extract_or_refuse(
     let kept_lines = trace
         .iter()
         .zip(log.chunks_exact(LINE))
-        .filter(|&(&number, _)| is_kept(policy, class, number));
+        .filter(|&(&number, _)| keeps(policy, class, number, planted));
     for ((&number, line), place) in kept_lines.zip(out.chunks_exact_mut(LINE)) {
-        place.copy_from_slice(&shown_line(policy, class, number, line));
+        place.copy_from_slice(&shown_line(policy, class, number, line, planted));
     }
     Ok(count)
 }
 
 /// Whether class L may see what belongs to another class: the other exists and
 /// may flow to L.
-fn is_seen(policy: &Policy, class: usize, other: usize) -> bool {
-    policy.flows(other, class)
+fn is_seen(policy: &Policy, class: usize, other: usize, planted: Planted) -> bool {
+    let flows = |from: usize| policy.flows(from, class);
+    match (planted, other) {
+        // Not rules: leaks that tests plant.
+        (Planted::MaskOf5With6, 6) => flows(6) || flows(5),
+        (Planted::MasksOf9And10Swapped, 9) => flows(10),
+        (Planted::MasksOf9And10Swapped, 10) => flows(9),
+        _ => flows(other),
+    }
+}
+
+/// Whether the extract for a class keeps the four numbers of a trace number, by the
+/// true rule whatever is planted: the lists of pairs are struck by this one.
+pub fn is_kept(policy: &Policy, class: usize, number: u32) -> bool {
+    keeps(policy, class, number, Planted::Nothing)
 }
 
 /// "The extract for class L drops the four numbers of malformed words and of
 /// offers whose class may not flow to L or does not exist." Ticks, refused ones
 /// too, are kept.
-pub fn is_kept(policy: &Policy, class: usize, number: u32) -> bool {
+fn keeps(policy: &Policy, class: usize, number: u32, planted: Planted) -> bool {
     match Word::of(number) {
         Word::Tick => true,
-        Word::Offer(request) => is_seen(policy, class, usize::from(request.class)),
+        Word::Offer(request) => is_seen(policy, class, usize::from(request.class), planted),
         Word::Malformed => false,
     }
 }
 
 /// The four numbers of a kept line, as L sees them. Only ticks are changed: an
 /// offer that is kept belongs to a class that L may see, status and all.
-fn shown_line(policy: &Policy, class: usize, number: u32, line: &[u32]) -> [u32; LINE] {
+fn shown_line(
+    policy: &Policy,
+    class: usize,
+    number: u32,
+    line: &[u32],
+    planted: Planted,
+) -> [u32; LINE] {
     let [status, command, response, turn] = [line[0], line[1], line[2], line[3]];
     if Word::of(number) == Word::Tick {
         [
             status,
-            shown_word(policy, class, command),
-            shown_word(policy, class, response),
-            shown_turn(policy, class, turn),
+            shown_word(policy, class, command, planted),
+            shown_word(policy, class, response, planted),
+            shown_turn(policy, class, turn, planted),
         ]
     } else {
         [status, command, response, turn]
@@ -96,8 +118,8 @@ fn shown_line(policy: &Policy, class: usize, number: u32, line: &[u32]) -> [u32;
 /// "On ticks, a command or answer of another such class becomes 0". The class
 /// is read from its bits, whatever the other bits hold, so that every number a
 /// log may have is decided.
-fn shown_word(policy: &Policy, class: usize, word: u32) -> u32 {
-    if is_seen(policy, class, usize::from(class_bits(word))) {
+fn shown_word(policy: &Policy, class: usize, word: u32, planted: Planted) -> u32 {
+    if is_seen(policy, class, usize::from(class_bits(word)), planted) {
         word
     } else {
         0
@@ -107,9 +129,9 @@ fn shown_word(policy: &Policy, class: usize, word: u32) -> u32 {
 /// "such an owner's turn number becomes 512; a turn number of 0 stays 0. The
 /// owner is the turn number's low 8 bits less 1; a nonzero turn number that so
 /// names no class below n becomes 512 too."
-fn shown_turn(policy: &Policy, class: usize, turn: u32) -> u32 {
+fn shown_turn(policy: &Policy, class: usize, turn: u32, planted: Planted) -> u32 {
     let owner = ((turn & 0xFF) as usize).checked_sub(1);
-    let seen = owner.is_some_and(|owner| is_seen(policy, class, owner));
+    let seen = owner.is_some_and(|owner| is_seen(policy, class, owner, planted));
     if turn == 0 || seen {
         turn
     } else {

@@ -1,5 +1,7 @@
-//! Policies and traces made from a seed: the same seed gives the same bytes.
+//! Policies and traces made from a seed: the same seed gives the same bytes. With them go the
+//! layout of a policy file and the rows of two plain orders.
 
+use crate::masks::{below_mask, class_mask};
 use crate::policy::{self, Policy, LONGEST_EPOCH, MOST_CLASSES, TIMING_LENGTH};
 use crate::random::Random;
 use crate::state::{Request, BANKS, QUEUE_LIMIT};
@@ -103,6 +105,19 @@ pub fn encode_bodies(order: &[u8], turns: &[u8], timing: &[u8]) -> Vec<u8> {
     file
 }
 
+/// The rows of a chain of n classes: 0 below 1, that below 2, and so on.
+pub fn chain_rows(n: usize) -> Vec<u16> {
+    let from = |class: usize| below_mask(n) & !below_mask(class);
+    (0..n).map(from).collect()
+}
+
+/// The rows of n classes of which one is below all others, which are incomparable.
+pub fn antichain_rows(n: usize, least: usize) -> Vec<u16> {
+    let mut rows: Vec<u16> = (0..n).map(class_mask).collect();
+    rows[least] = below_mask(n);
+    rows
+}
+
 /// A policy that no number refuses.
 pub fn sound_fields(random: &mut Random) -> PolicyFields {
     // The most is an edge of marks, masks and class numbers.
@@ -152,7 +167,7 @@ pub(crate) fn sound_rows(random: &mut Random, n: usize) -> Vec<u16> {
     let mut rows = vec![0; n];
     for (lower, row) in flows.iter().enumerate() {
         for (upper, _) in row.iter().enumerate().filter(|(_, &flows)| flows) {
-            rows[class_of[lower]] |= 1 << class_of[upper];
+            rows[class_of[lower]] |= class_mask(class_of[upper]);
         }
     }
     rows
@@ -177,7 +192,8 @@ fn sound_turns(random: &mut Random, rows: &[u16]) -> (u8, Vec<u8>) {
     let mut minimums = vec![0; n];
     // At times all are with a class that has nothing above it: those below it have
     // few turns then, and often none.
-    let tops: Vec<usize> = (0..n).filter(|&class| rows[class] == 1 << class).collect();
+    let is_top = |&class: &usize| rows[class] == class_mask(class);
+    let tops: Vec<usize> = (0..n).filter(is_top).collect();
     if random.percent(25) {
         minimums[*random.pick(&tops)] = if random.percent(50) { epoch } else { sum } as u8;
     } else {
@@ -335,7 +351,7 @@ pub const DAMAGES: [Damage; 61] = [
     damage(2, "n = 17 with lengths to fit", |random| {
         with_fields(random, |_, fields| {
             fields.n = 17;
-            fields.rows.resize(17, 0xFFFF);
+            fields.rows.resize(17, below_mask(MOST_CLASSES));
             fields.minimums.resize(17, 0);
         })
     }),
@@ -407,14 +423,14 @@ pub const DAMAGES: [Damage; 61] = [
         let n = random.between(1, MOST_CLASSES - 1);
         with_rows(random, n, |random, rows| {
             let class = random.below(n);
-            rows[class] |= 1 << random.between(n, MOST_CLASSES - 1);
+            rows[class] |= class_mask(random.between(n, MOST_CLASSES - 1));
         })
     }),
     damage(3, "a row lacks its own bit", |random| {
         let n = random.between(1, MOST_CLASSES);
         with_rows(random, n, |random, rows| {
             let class = random.below(n);
-            rows[class] &= !(1 << class);
+            rows[class] &= !class_mask(class);
         })
     }),
     damage(4, "two classes flow to each other", |random| {
@@ -422,8 +438,8 @@ pub const DAMAGES: [Damage; 61] = [
         with_rows(random, n, |random, rows| {
             let lower = random.below(n);
             let upper = (lower + random.between(1, n - 1)) % n;
-            rows[lower] |= 1 << upper;
-            rows[upper] |= 1 << lower;
+            rows[lower] |= class_mask(upper);
+            rows[upper] |= class_mask(lower);
         })
     }),
     damage(5, "a chain that lacks a flow", |random| {
@@ -432,25 +448,25 @@ pub const DAMAGES: [Damage; 61] = [
             let mut class_of: Vec<usize> = (0..n).collect();
             random.shuffle(&mut class_of);
             for (place, &class) in class_of.iter().enumerate() {
-                rows[class] = class_of[place..].iter().map(|&upper| 1 << upper).sum();
+                let above = class_of[place..].iter();
+                rows[class] = above.map(|&upper| class_mask(upper)).sum();
             }
             let lower = random.below(n - 2);
             let upper = random.between(lower + 2, n - 1);
-            rows[class_of[lower]] &= !(1 << class_of[upper]);
+            rows[class_of[lower]] &= !class_mask(class_of[upper]);
         })
     }),
     damage(6, "no two classes flow", |random| {
         let n = random.between(2, MOST_CLASSES);
         with_rows(random, n, |_, rows| {
-            (0..n).for_each(|class| rows[class] = 1 << class);
+            (0..n).for_each(|class| rows[class] = class_mask(class));
         })
     }),
     damage(6, "two chains side by side", |random| {
         let n = random.between(2, MOST_CLASSES);
         with_rows(random, n, |_, rows| {
-            for class in 0..n {
-                let above = (class..n).step_by(2);
-                rows[class] = above.map(|upper| 1 << upper).sum();
+            for (class, row) in rows.iter_mut().enumerate() {
+                *row = (class..n).step_by(2).map(class_mask).sum();
             }
         })
     }),
@@ -599,21 +615,20 @@ const FAULTS: [fn(&mut Random, &mut PolicyFields); 8] = [
     |_, fields| fields.n = fields.n.wrapping_add(1),
     |random, fields| {
         let class = random.below(fields.rows.len());
-        fields.rows[class] &= !(1 << class);
+        fields.rows[class] &= !class_mask(class);
     },
     |random, fields| {
         let n = fields.rows.len();
-        fields.rows[random.below(n)] = ((1u32 << n) - 1) as u16;
+        fields.rows[random.below(n)] = below_mask(n);
     },
     |_, fields| {
         // A chain in which the first may not flow to the last.
         let n = fields.rows.len();
-        let from = |class: usize| (class..n).map(|upper| 1 << upper).sum();
-        fields.rows = (0..n).map(from).collect();
-        fields.rows[0] &= !(1 << (n - 1)) | 1;
+        fields.rows = chain_rows(n);
+        fields.rows[0] &= !class_mask(n - 1) | class_mask(0);
     },
     |_, fields| {
-        let alone = (0..fields.rows.len()).map(|class| 1 << class);
+        let alone = (0..fields.rows.len()).map(class_mask);
         fields.rows = alone.collect();
     },
     |_, fields| fields.epoch = 0,

@@ -75,7 +75,7 @@ fn search_pairs(count: u64, planted: Planted, pair: fn(u64) -> Pair) -> Search {
     for seed in 0..count {
         let pair = pair(seed);
         let done = [0, 1].map(|side| perform(&pair, side, planted));
-        let outcomes = outcomes(&pair, &done);
+        let outcomes = outcomes(&pair, &done, planted);
         let extract = &outcomes[0].extract;
         let logs = [&done[0].log, &done[1].log].map(Vec::as_slice);
         let numbers = &extract.out[..extract.count];
@@ -102,7 +102,7 @@ pub fn check_altered(seed: u64, altered: Altered) -> Option<Option<Check>> {
     // Either list's outcome must be looked at.
     let (side, place) = ((seed % 2) as usize, seed / 2);
     let in_performed = altered.change_performed(&pair, side, place, &mut done[side]);
-    let mut outcomes = outcomes(&pair, &done);
+    let mut outcomes = outcomes(&pair, &done, Planted::Nothing);
     let in_outcome = altered.change_outcome(&mut outcomes[side]);
     let fired = difference(&pair, &done, &outcomes).map(|(check, _)| check);
     (in_performed || in_outcome).then_some(fired)
@@ -134,13 +134,13 @@ pub(crate) struct Outcome {
 }
 
 /// The extracts of two performed lists.
-fn outcomes(pair: &Pair, done: &[Performed; 2]) -> [Outcome; 2] {
+fn outcomes(pair: &Pair, done: &[Performed; 2], planted: Planted) -> [Outcome; 2] {
     let extract = |side: usize, room: usize| {
         let mut out = vec![UNWRITTEN; room];
-        let (count, refusal) = pair.extract(side, &done[side].log, &mut out);
+        let outcome = pair.extract(side, &done[side].log, &mut out, planted);
         Extract {
-            count,
-            refusal,
+            count: outcome.unwrap_or(0),
+            refusal: outcome.err(),
             out,
         }
     };

@@ -6,6 +6,7 @@
 //! | Document 01                        | Module                  |
 //! |------------------------------------|-------------------------|
 //! | The policy file                    | [`policy`]              |
+//! | Masks of W-205                     | [`masks`]               |
 //! | A tick: fresh states, range checks | [`state`]               |
 //! | A tick: ticks and offers           | [`tick`]                |
 //! | The walk                           | [`walk`]                |
@@ -35,6 +36,7 @@ pub mod dead_time;
 pub mod extract;
 pub mod generate;
 pub mod leaks;
+pub mod masks;
 pub mod met;
 pub mod pairs;
 pub mod planted;

@@ -15,7 +15,7 @@ use crate::trace::{Word, COLUMN_BIT, ELIDED, LINE, OFFER_BIT};
 /// What is counted, and how much of it so many pairs must have met.
 type Counted = (&'static str, fn(u64) -> u64);
 
-const COUNTED: [Counted; 42] = [
+const COUNTED: [Counted; 43] = [
     ("pairs compared", |pairs| pairs),
     ("pairs of different lists", |pairs| pairs / 2),
     ("pairs with lists of different lengths", |pairs| pairs / 2),
@@ -48,6 +48,10 @@ const COUNTED: [Counted; 42] = [
     ("lists to be cut into single calls", |pairs| pairs / 20),
     ("calls", |pairs| 100 * pairs),
     ("offers of hidden classes", |pairs| 10 * pairs),
+    // W-205: they would be seen too if the mask of the seen class had its neighbour's bit.
+    ("offers of hidden classes beside a seen one", |pairs| {
+        10 * pairs
+    }),
     ("offers of missing classes", |pairs| pairs),
     ("malformed words", |pairs| pairs),
     // Hidden or seen.
@@ -223,13 +227,17 @@ impl Met {
             let single = cut == Cut::SingleCalls;
             self.add_if(single, "lists to be cut into single calls");
         }
-        let [mut hidden, mut missing, mut malformed] = [0; 3];
+        let [mut hidden, mut beside_seen, mut missing, mut malformed] = [0; 4];
         for &number in left.iter().chain(right) {
             match Word::of(number) {
                 Word::Offer(request) => {
                     let class = usize::from(request.class);
                     let exists = class < pair.policy.class_count();
-                    hidden += usize::from(exists && !pair.sees(class));
+                    if exists && !pair.sees(class) {
+                        hidden += 1;
+                        let below = class.checked_sub(1).is_some_and(|below| pair.sees(below));
+                        beside_seen += usize::from(below || pair.sees(class + 1));
+                    }
                     missing += usize::from(!exists);
                 }
                 Word::Malformed => malformed += 1,
@@ -237,6 +245,7 @@ impl Met {
             }
         }
         self.add("offers of hidden classes", hidden);
+        self.add("offers of hidden classes beside a seen one", beside_seen);
         self.add("offers of missing classes", missing);
         self.add("malformed words", malformed);
     }

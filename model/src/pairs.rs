@@ -7,7 +7,7 @@
 //! both lists, so they aim by the first list alone; all others are each list's
 //! own and aim by that list.
 
-use crate::extract::{extract, is_kept};
+use crate::extract::{extract_planted, is_kept};
 use crate::generate::{
     busy_bank_offer, malformed_word, missing_class_word, quick_kind_offer, refused_offer,
     sound_offer, sound_rows, sound_timing, PolicyFields,
@@ -52,8 +52,10 @@ impl Pair {
         side: usize,
         log: &[u32],
         out: &mut [u32],
-    ) -> (usize, Option<Refusal>) {
-        extract(&self.policy, self.class, &self.lists[side], log, out)
+        planted: Planted,
+    ) -> Result<usize, Refusal> {
+        let list = &self.lists[side];
+        extract_planted(&self.policy, self.class, list, log, out, planted)
     }
 
     /// The log lines of ticks. Both lists have the same number of them.

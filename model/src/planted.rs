@@ -5,8 +5,8 @@
 /// Which wrong rule is in place.
 #[derive(Clone, Copy, Debug, Default, PartialEq, Eq)]
 pub enum Planted {
-    /// None: the rules of document 01 with W-201, W-202 and W-203. Every tick, run
-    /// and program uses this.
+    /// None: the rules of document 01 with W-201, W-202 and W-203. Every tick, run,
+    /// extract and program uses this.
     #[default]
     Nothing,
     /// The dead time is always dropped.
@@ -112,10 +112,17 @@ pub enum Planted {
     CountsForgottenAtTurnStart,
     /// A class's count is set to 0 by each offer of the class that is taken.
     CountForgottenAtOffer,
+    /// L sees what it would see by a set of classes made of W-205's masks out of a table in
+    /// which the mask of class 5 has the bit of class 6 too.
+    MaskOf5With6,
+    /// L sees what it would see by a set of classes made of W-205's masks out of a table in
+    /// which the masks of classes 9 and 10 are swapped. The set is asked by the bits
+    /// themselves: if the swapped masks asked it too, it would be as if nothing were swapped.
+    MasksOf9And10Swapped,
 }
 
 /// Every wrong rule that leaks in a list of calls from a fresh state.
-pub const LEAKS: [Planted; 21] = [
+pub const LEAKS: [Planted; 23] = [
     Planted::AlwaysElided,
     Planted::Document000Elision,
     Planted::EpochEndForgotten,
@@ -137,4 +144,6 @@ pub const LEAKS: [Planted; 21] = [
     Planted::OneCountUpTo15,
     Planted::LastKindFirst,
     Planted::LastBankLast,
+    Planted::MaskOf5With6,
+    Planted::MasksOf9And10Swapped,
 ];

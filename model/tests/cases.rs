@@ -8,7 +8,8 @@ use std::path::Path;
 
 use common::*;
 use vigambul_model::extract::extract;
-use vigambul_model::generate::PolicyFields;
+use vigambul_model::generate::{chain_rows, PolicyFields};
+use vigambul_model::masks::{below_mask, class_mask};
 use vigambul_model::policy::Policy;
 use vigambul_model::refusal::Refusal;
 use vigambul_model::state::{self, Kind, Request, State};
@@ -62,10 +63,9 @@ fn examples() -> String {
 
 /// The shortest file and the longest.
 fn sizes() -> String {
-    let chain: Vec<u16> = (0..16).map(|class| 0xFFFF << class).collect();
     let single = PolicyFields::new(&[1], 1, &[0], TIMING).encode();
     let sixteen = PolicyFields::new(
-        &chain,
+        &chain_rows(16),
         64,
         &[4; 16],
         [255, 31, 31, 31, 31, 31, 31, 31, 30, 31],
@@ -295,8 +295,7 @@ fn used_up() -> String {
     list.push(0x8302_0003);
     list.extend([0; 8]);
     let none = [(0, 0), (1, 0), (2, 0), (3, 0)];
-    let rows: Vec<u16> = (0..16).map(|class| 0xFFFF << class).collect();
-    let sixteen = policy(&rows, 64, &[0; 16], TIMING);
+    let sixteen = policy(&chain_rows(16), 64, &[0; 16], TIMING);
     let below_the_top: Vec<(usize, u8)> = (0..15).map(|class| (class, 0)).collect();
     let mut few = vec![0x8000_0001, 0x8E01_0002];
     few.extend([0; 8]);
@@ -544,6 +543,41 @@ fn stored_policies() -> String {
         .map(|(what, place)| format!("a stored policy with {what} at {place}: no\n"));
     let first = first.iter().map(answered);
     first.chain(past).chain(last.iter().map(answered)).collect()
+}
+
+/// W-205's masks: of each class and of all classes below each number, and of numbers that are out of
+/// range.
+fn masks() -> String {
+    let numbers = || (0..=17).chain([255, 65_536, 4_294_967_295]);
+    let of_class = |number| format!("the mask of class {number}: {}\n", class_mask(number));
+    let below = |number| {
+        let mask = below_mask(number);
+        format!("the mask of all classes below {number}: {mask}\n")
+    };
+    numbers()
+        .map(of_class)
+        .chain(numbers().map(below))
+        .collect()
+}
+
+/// Chains of every class count, and the same with the lowest bit that is no class's in row 0. Where 3
+/// is asked by W-205's mask of all classes below n, a mask that lacks its highest bit refuses the
+/// chain, and one that has the next bit too does not give 3 to the other.
+fn chains() -> String {
+    let alone = |n| {
+        let name = format!("a chain of {n} classes");
+        line(&name, &with_rows(&chain_rows(n)))
+    };
+    let with_bit_n = |n| {
+        let mut rows = chain_rows(n);
+        rows[0] |= class_mask(n);
+        let name = format!("a chain of {n} classes, with bit {n} in row 0");
+        line(&name, &with_rows(&rows))
+    };
+    (1..=16)
+        .map(alone)
+        .chain((1..=15).map(with_bit_n))
+        .collect()
 }
 
 /// What every number of a log is before a run.
@@ -1009,10 +1043,10 @@ fn compare(program: &str, answers: &str) -> usize {
 fn the_proved_program_answers_as_the_model_does() {
     let policies = compare(
         "cases_policies",
-        &(files() + &extracts() + &stored_policies()),
+        &(files() + &extracts() + &stored_policies() + &masks() + &chains()),
     );
     let calls = compare("cases_calls", &(calls() + &runs()));
-    assert_eq!((policies, calls), (784, 860));
+    assert_eq!((policies, calls), (857, 860));
 }
 
 #[test]

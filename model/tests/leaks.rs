@@ -194,6 +194,16 @@ fn finds_a_scan_that_avoids_the_bank_of_the_last_activate() {
     assert_eq!(check, Some(Check::Command));
 }
 
+#[test]
+fn finds_a_mask_of_a_class_with_the_next_ones_bit() {
+    finds(Planted::MaskOf5With6);
+}
+
+#[test]
+fn finds_two_masks_of_classes_that_are_swapped() {
+    finds(Planted::MasksOf9And10Swapped);
+}
+
 /// Each change in what is compared, and the one comparison that can tell it.
 const ALTERED: [(Altered, Option<Check>); 20] = [
     (Altered::Nothing, None),

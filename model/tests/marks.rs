@@ -5,7 +5,7 @@
 mod common;
 
 use common::*;
-use vigambul_model::generate::{sound_fields, trace_of_length};
+use vigambul_model::generate::{antichain_rows, sound_fields, trace_of_length};
 use vigambul_model::policy::{self, Policy};
 use vigambul_model::random::Random;
 use vigambul_model::state::State;
@@ -51,10 +51,7 @@ fn the_customers_least_class_sends_on_every_second_turn() {
 #[test]
 fn turns_that_a_class_takes_leave_the_next_child_as_it_was() {
     for children in 2..=15u32 {
-        // Class 0 below all others, of which no two may flow to each other.
-        let all = (1u32 << (children + 1)) - 1;
-        let mut rows = vec![all as u16];
-        rows.extend((1..=children).map(|class| 1u16 << class));
+        let rows = antichain_rows(children as usize + 1, 0);
         let policy = policy(&rows, 64, &vec![0; rows.len()], TIMING);
         let mut state = fresh(&policy);
         for passed_on in 0..2 * children {

@@ -4,7 +4,8 @@
 mod common;
 
 use common::*;
-use vigambul_model::generate::{encode_bodies, PolicyFields};
+use vigambul_model::generate::{chain_rows, encode_bodies, PolicyFields};
+use vigambul_model::masks::{below_mask, class_mask};
 use vigambul_model::policy::{self, Policy};
 use vigambul_model::random::Random;
 use vigambul_model::refusal::Refusal;
@@ -80,10 +81,27 @@ fn a_file_of_31_bytes_and_one_of_76() {
     let shortest = PolicyFields::new(&[1], 1, &[1], TIMING).encode();
     assert_eq!(shortest.len(), 31);
     assert_eq!(file_number(&shortest), 0);
-    let chain_of_16: Vec<u16> = (0..16).map(|class| 0xFFFF << class).collect();
-    let longest = PolicyFields::new(&chain_of_16, 64, &[4; 16], TIMING).encode();
+    let longest = PolicyFields::new(&chain_rows(16), 64, &[4; 16], TIMING).encode();
     assert_eq!(longest.len(), 76);
     assert_eq!(file_number(&longest), 0);
+}
+
+/// The bits that W-205's mask of all classes below n does not have: each of them gets 3.
+#[test]
+fn every_bit_at_n_or_above_is_refused_in_every_row() {
+    for n in 1..=16 {
+        let chain = chain_rows(n);
+        assert_eq!(number_of_rows(&chain), 0, "n = {n}");
+        for (class, bit) in (0..n).flat_map(|class| (n..16).map(move |bit| (class, bit))) {
+            let mut rows = chain.clone();
+            rows[class] |= class_mask(bit);
+            assert_eq!(
+                number_of_rows(&rows),
+                3,
+                "n = {n}, bit {bit} of row {class}"
+            );
+        }
+    }
 }
 
 #[test]
@@ -279,14 +297,14 @@ fn a_policy_whose_stored_covers_or_caps_are_not_its_orders_is_out_of_range() {
         }),
         ("no classes", |policy| policy.rows.clear()),
         ("more than 16 classes", |policy| {
-            policy.rows.resize(17, 0xFFFF)
+            policy.rows.resize(17, below_mask(16))
         }),
         ("a minimum missing", |policy| policy.minimums.truncate(3)),
         ("a minimum too many", |policy| policy.minimums.push(0)),
-        ("3", |policy| policy.rows[0] |= 1 << 4),
-        ("4", |policy| policy.rows[3] |= 1),
-        ("5", |policy| policy.rows[0] &= !(1 << 3)),
-        ("6", |policy| policy.rows[0] = 1),
+        ("3", |policy| policy.rows[0] |= class_mask(4)),
+        ("4", |policy| policy.rows[3] |= class_mask(0)),
+        ("5", |policy| policy.rows[0] &= !class_mask(3)),
+        ("6", |policy| policy.rows[0] = class_mask(0)),
         ("7, E", |policy| policy.epoch = 65),
         ("7, the sum", |policy| policy.minimums[0] += 1),
         ("8", |policy| policy.timing.column_delay = 2),

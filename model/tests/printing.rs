@@ -3,7 +3,7 @@
 mod common;
 
 use common::*;
-use vigambul_model::generate::PolicyFields;
+use vigambul_model::generate::{chain_rows, PolicyFields};
 use vigambul_model::program;
 
 fn output(file: &[u8], numbers: &[u32]) -> String {
@@ -17,8 +17,7 @@ fn output(file: &[u8], numbers: &[u32]) -> String {
 #[test]
 fn hexadecimal_digits_are_capital_letters_in_every_place() {
     // A chain of ten: idle turns are owned by class 9, whose turn number is 10.
-    let chain_of_10: Vec<u16> = (0..10).map(|class| 0x3FF & 0xFFFF << class).collect();
-    let file = PolicyFields::new(&chain_of_10, 1, &[0; 10], TIMING).encode();
+    let file = PolicyFields::new(&chain_rows(10), 1, &[0; 10], TIMING).encode();
     assert_eq!(
         output(&file, &[0x4000_0000, 0x8917_ABCD, 0, 0, 0]),
         "status command answer turn\n\

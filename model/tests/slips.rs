@@ -3,6 +3,7 @@
 mod common;
 
 use common::*;
+use vigambul_model::generate::chain_rows;
 
 #[test]
 fn a_higher_class_is_not_asked_first() {
@@ -43,8 +44,7 @@ fn no_activate_goes_out_in_the_cycle_of_a_due_column_command() {
 
 #[test]
 fn each_class_has_a_queue_limit_of_its_own() {
-    let chain_of_16: Vec<u16> = (0..16).map(|class| 0xFFFF << class).collect();
-    let policy = policy(&chain_of_16, 64, &[0; 16], TIMING);
+    let policy = policy(&chain_rows(16), 64, &[0; 16], TIMING);
     let mut state = fresh(&policy);
     for class in 0..16 {
         let log = run_on(&policy, &mut state, &[read_word(class, 0); 9]);

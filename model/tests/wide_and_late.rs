@@ -4,7 +4,8 @@
 mod common;
 
 use common::*;
-use vigambul_model::generate::{sound_fields, trace_of_length};
+use vigambul_model::generate::{antichain_rows, sound_fields, trace_of_length};
+use vigambul_model::masks::{below_mask, class_mask};
 use vigambul_model::policy::{self, Policy};
 use vigambul_model::random::Random;
 use vigambul_model::state::{InFlight, Kind, State, LAST_CYCLE};
@@ -20,10 +21,9 @@ fn idle(policy: &Policy, turns: usize) -> Vec<u32> {
 #[test]
 fn a_mark_counts_through_one_to_fifteen_children() {
     for children in 1..=15u32 {
-        // The least class is the last; all others are directly above it.
-        let least = (1u32 << (children + 1)) - 1;
-        let mut rows: Vec<u16> = (0..children).map(|class| 1 << class).collect();
-        rows.push(least as u16);
+        // The least class is the last.
+        let least = children as usize;
+        let rows = antichain_rows(least + 1, least);
         let policy = policy(&rows, 64, &vec![0; rows.len()], TIMING);
         let turns = 3 * children as usize + 2;
         let expected: Vec<u32> = (0..turns as u32).map(|turn| turn % children).collect();
@@ -32,7 +32,7 @@ fn a_mark_counts_through_one_to_fifteen_children() {
         for turn in 0..turns {
             run_on(&policy, &mut state, &idle(&policy, 1));
             let mark = turn % children as usize + 1;
-            assert_eq!(state.classes[children as usize].pointer, mark);
+            assert_eq!(state.classes[least].pointer, mark);
         }
     }
 }
@@ -40,23 +40,22 @@ fn a_mark_counts_through_one_to_fifteen_children() {
 /// Class 0 below k middle classes, all of those below class k + 1, and one of
 /// them also below class k + 2. Where class 0 and that one alone have no turns left,
 /// a trial walk can come through at that one alone.
-fn one_way_up(middles: u32, open: u32) -> Policy {
-    let (top, other) = (middles + 1, middles + 2);
-    let all = (1u32 << (middles + 3)) - 1;
-    let mut rows = vec![all as u16];
+fn one_way_up(middles: usize, open: usize) -> Policy {
+    let [top, other] = [middles + 1, middles + 2].map(class_mask);
+    let mut rows = vec![below_mask(middles + 3)];
     for middle in 1..=middles {
-        let above_open = if middle == open { 1 << other } else { 0 };
-        rows.push((1 << middle | 1 << top | above_open) as u16);
+        let above_open = if middle == open { other } else { 0 };
+        rows.push(class_mask(middle) | top | above_open);
     }
-    rows.extend([1u16 << top, 1u16 << other]);
+    rows.extend([top, other]);
     policy(&rows, 64, &vec![0; rows.len()], TIMING)
 }
 
 #[test]
 fn the_trial_walk_moves_a_mark_back_to_1_after_two_to_thirteen_children() {
-    for middles in 2..=13 {
+    for middles in 2..=13u32 {
         for open in [1, middles] {
-            let policy = one_way_up(middles, open);
+            let policy = one_way_up(middles as usize, open as usize);
             let (top, other) = (middles + 1, middles + 2);
             // The open class is tried in every turn of this place and passes each
             // of them on, so its own mark goes to and fro between the two classes

@@ -1,9 +1,10 @@
 //! The calls of the library for C, of the library itself or of something in its
 //! place: so the tests can show that they find what is wrong.
 
+use vigambul_model::extract::extract_planted;
 use vigambul_model::planted::Planted;
 use vigambul_model::trace::run_planted;
-use vigambul_model::{extract, policy, state};
+use vigambul_model::{policy, refusal, state};
 
 use crate::library;
 
@@ -68,7 +69,8 @@ impl Calls for Model {
         if let Some(refusal) = refusal {
             return (0, refusal.number());
         }
-        let (count, refusal) = extract::extract(&policy, class as usize, trace, log, out);
-        (count, refusal.map_or(0, |refusal| refusal.number()))
+        let class = class as usize;
+        let outcome = extract_planted(&policy, class, trace, log, out, self.0);
+        (outcome.unwrap_or(0), refusal::status(&outcome))
     }
 }

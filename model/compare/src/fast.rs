@@ -7,6 +7,7 @@
 //! made one by one: no stretch of idle ticks is skipped. The owner's requests are
 //! looked through once for each time that one of them could go, and not at each tick.
 
+use vigambul_model::masks::class_mask;
 use vigambul_model::policy::{self, Policy, LONGEST_EPOCH, MOST_CLASSES};
 use vigambul_model::state::{BANKS, LAST_CYCLE, MOST_PASSES, QUEUE_LIMIT};
 use vigambul_model::trace::{COLUMN_BIT, ELIDED, LINE, OFFER_BIT};
@@ -152,8 +153,12 @@ impl Controller {
                 controller.children[class][place] = child as u8;
             }
             controller.child_count[class] = children.len() as u8;
-            controller.tops |= u16::from(children.is_empty()) << class;
-            controller.with_caps |= u16::from(policy.caps[class] > 0) << class;
+            if children.is_empty() {
+                controller.tops |= class_mask(class);
+            }
+            if policy.caps[class] > 0 {
+                controller.with_caps |= class_mask(class);
+            }
         }
         // The last turns of an epoch, as many as the minimums sum up to.
         let others = usize::from(policy.epoch - policy.minimums.iter().sum::<u8>());
@@ -209,7 +214,7 @@ impl Controller {
         let place = usize::from(self.heads[class] + length) % QUEUE_LIMIT;
         self.queues[class][place] = word;
         self.lengths[class] = length + 1;
-        self.waiting |= 1 << class;
+        self.waiting |= class_mask(class);
         // It may be the owner's, and may go before those that were looked at.
         self.none_before = self.kinds_ready();
         0
@@ -292,7 +297,7 @@ impl Controller {
         self.heads[owner] = (self.heads[owner] + 1) % QUEUE_LIMIT as u8;
         self.lengths[owner] -= 1;
         if self.lengths[owner] == 0 {
-            self.waiting &= !(1 << owner);
+            self.waiting &= !class_mask(owner);
         }
         self.kind_ready = self.gaps[kind].map(|gap| cycle + gap);
         self.bank_ready[bank] = cycle + self.bank_gaps[kind];
@@ -365,7 +370,7 @@ impl Controller {
         if self.turns_left[class] > 0 {
             self.turns_left[class] -= 1;
             if self.turns_left[class] == 0 {
-                self.with_turns &= !(1 << class);
+                self.with_turns &= !class_mask(class);
             }
         }
     }

@@ -1,7 +1,8 @@
 //! The policies and traces that speed is measured on.
 
 use vigambul_model::generate::{
-    busy_bank_offer, malformed_word, missing_class_word, refused_offer, sound_offer, PolicyFields,
+    antichain_rows, busy_bank_offer, chain_rows, malformed_word, missing_class_word, refused_offer,
+    sound_offer, PolicyFields,
 };
 use vigambul_model::policy::{self, Policy, MOST_CLASSES};
 use vigambul_model::random::Random;
@@ -82,7 +83,7 @@ fn diamond() -> PolicyFields {
 /// epoch starts at every height. Saturated, each class takes the turn that starts at it
 /// and no walk ascends; idle, every walk goes to the top.
 fn chain(timing: [u8; 10]) -> PolicyFields {
-    let rows: Vec<u16> = (0..MOST_CLASSES).map(|class| 0xFFFF << class).collect();
+    let rows = chain_rows(MOST_CLASSES);
     PolicyFields::new(&rows, 16, &ONE_BUT_OF_THE_LEAST, timing)
 }
 
@@ -100,8 +101,7 @@ const NO_MINIMUMS: [u8; MOST_CLASSES] = [0; MOST_CLASSES];
 /// Class 0 below fifteen that are incomparable. Saturated, no walk ascends; idle, every
 /// walk from class 0 goes to the next of its fifteen children.
 fn antichain(minimums: [u8; MOST_CLASSES]) -> PolicyFields {
-    let mut rows: Vec<u16> = (0..MOST_CLASSES).map(|class| 1 << class).collect();
-    rows[0] = 0xFFFF;
+    let rows = antichain_rows(MOST_CLASSES, 0);
     PolicyFields::new(&rows, 16, &minimums, TIMING)
 }
 

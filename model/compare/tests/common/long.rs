@@ -6,7 +6,8 @@
 //! two of cycles and then asked for.
 
 use vigambul_compare::fast::Controller;
-use vigambul_model::generate::{sound_offer, PolicyFields};
+use vigambul_model::generate::{antichain_rows, sound_offer, PolicyFields};
+use vigambul_model::masks::below_mask;
 use vigambul_model::policy::MOST_CLASSES;
 use vigambul_model::random::Random;
 use vigambul_model::state::{BANKS, LAST_CYCLE};
@@ -27,9 +28,7 @@ pub fn policies() -> [(&'static str, Vec<u8>); 4] {
 /// 15 below 14, that below 13, and so on; each has four turns more than the one
 /// below it.
 fn chain_of_sixteen() -> Vec<u8> {
-    let rows: Vec<u16> = (0..MOST_CLASSES)
-        .map(|class| 0xFFFF >> (15 - class))
-        .collect();
+    let rows: Vec<u16> = (1..=MOST_CLASSES).map(below_mask).collect();
     let mut minimums = [4; MOST_CLASSES];
     minimums[15] = 3;
     let timing = [5, 3, 1, 2, 3, 1, 2, 3, 1, 3];
@@ -38,8 +37,7 @@ fn chain_of_sixteen() -> Vec<u8> {
 
 /// 8 below all others, which are incomparable. It has one turn of an epoch.
 fn fifteen_over_one() -> Vec<u8> {
-    let mut rows: Vec<u16> = (0..MOST_CLASSES).map(|class| 1 << class).collect();
-    rows[8] = 0xFFFF;
+    let rows = antichain_rows(MOST_CLASSES, 8);
     let mut minimums = [0; MOST_CLASSES];
     minimums[..5].fill(2);
     let timing = [255, 31, 29, 31, 30, 28, 31, 27, 13, 30];

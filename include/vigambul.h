@@ -9,15 +9,18 @@
 #include <stddef.h>
 #include <stdint.h>
 
-/* A word is an offer in a trace, or a command or an answer in a log. Bit 31 is set; bit 30 is set for a column command alone; the class is in bits 24 to 28, the kind in 20 and
- * 21 (0 read, 1 write), the bank in 16 to 19 (0 to 7), the tag in 0 to 15, and the other bits are 0. A trace number of 0 is a tick; a command or an answer of 0 is none. A number that
- * is too large for its field loses its upper bits: an offer of class 32 is one of class 0. Each macro's value is a uint32_t, and each argument is evaluated once.
+/* A word is an offer in a trace, or a command or an answer in a log. Bit 31 is set; bit 30 is set for a column command alone; the class is in bits 24 to 28, the rank in 22 and 23
+ * (0 to 3; 0 alone if the policy's timing has ten bytes), the kind in 20 and 21 (0 read, 1 write), the bank in 16 to 19 (0 to 7), the tag in 0 to 15, and the other bits are 0. A
+ * trace number of 0 is a tick; a command or an answer of 0 is none. A number that is too large for its field loses its upper bits: an offer of class 32 is one of class 0. Each
+ * macro's value is a uint32_t, and each argument is evaluated once. VIGAMBUL_OFFER is an offer on rank 0, VIGAMBUL_OFFER_ON one on any.
  */
 #define VIGAMBUL_TICK UINT32_C(0)
-#define VIGAMBUL_OFFER(class_, kind, bank, tag) \
-    (UINT32_C(0x80000000) | (((uint32_t)(class_) & UINT32_C(31)) << 24) | (((uint32_t)(kind) & UINT32_C(3)) << 20) | \
-     (((uint32_t)(bank) & UINT32_C(15)) << 16) | ((uint32_t)(tag) & UINT32_C(0xFFFF)))
+#define VIGAMBUL_OFFER_ON(class_, rank, kind, bank, tag) \
+    (UINT32_C(0x80000000) | (((uint32_t)(class_) & UINT32_C(31)) << 24) | (((uint32_t)(rank) & UINT32_C(3)) << 22) | \
+     (((uint32_t)(kind) & UINT32_C(3)) << 20) | (((uint32_t)(bank) & UINT32_C(15)) << 16) | ((uint32_t)(tag) & UINT32_C(0xFFFF)))
+#define VIGAMBUL_OFFER(class_, kind, bank, tag) VIGAMBUL_OFFER_ON(class_, 0, kind, bank, tag)
 #define VIGAMBUL_CLASS(word) (((uint32_t)(word) >> 24) & UINT32_C(31))
+#define VIGAMBUL_RANK(word) (((uint32_t)(word) >> 22) & UINT32_C(3))
 #define VIGAMBUL_KIND(word) (((uint32_t)(word) >> 20) & UINT32_C(3))
 #define VIGAMBUL_BANK(word) (((uint32_t)(word) >> 16) & UINT32_C(15))
 #define VIGAMBUL_TAG(word) ((uint32_t)(word) & UINT32_C(0xFFFF))
@@ -37,15 +40,15 @@
 enum vigambul_refusal {
     VIGAMBUL_TAKEN = 0,
     VIGAMBUL_REFUSED_CONTENTS = 1,    /* file under 17 or above 65,535 bytes, or contents not as document 01 has them, lengths apart */
-    VIGAMBUL_REFUSED_LENGTH = 2,      /* n not 1 to 16, or a body's length does not fit it */
+    VIGAMBUL_REFUSED_LENGTH = 2,      /* n not 1 to 16, or a body's length does not fit it; the timing's is 10, or 11 with a rank gap */
     VIGAMBUL_REFUSED_ROW = 3,         /* a row has a bit at n or above, or lacks its own */
     VIGAMBUL_REFUSED_BOTH_WAYS = 4,   /* two classes flow to each other */
     VIGAMBUL_REFUSED_TRANSITIVE = 5,  /* not transitive */
     VIGAMBUL_REFUSED_LEAST = 6,       /* no least class */
     VIGAMBUL_REFUSED_TURNS = 7,       /* E or the sum of minimums out of range */
-    VIGAMBUL_REFUSED_TIMING = 8,      /* a timing byte out of range */
+    VIGAMBUL_REFUSED_TIMING = 8,      /* a timing byte out of range; the eleventh, the rank gap, is 1 to the dead time */
     VIGAMBUL_REFUSED_CLASS = 9,       /* class not below n */
-    VIGAMBUL_REFUSED_BANK_KIND = 10,  /* bank above 7 or kind above 1 */
+    VIGAMBUL_REFUSED_BANK_KIND = 10,  /* bank above 7, kind above 1, or a rank other than 0 with ten timing bytes */
     VIGAMBUL_REFUSED_QUEUE = 11,      /* 8 requests of that class wait */
     VIGAMBUL_REFUSED_LAST_TICK = 12,  /* a tick after 16,777,215 ticks */
     VIGAMBUL_REFUSED_RANGE = 13,      /* a state or policy handed in has numbers out of range (none of these functions is handed one) */

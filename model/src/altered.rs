@@ -43,7 +43,7 @@ pub enum Altered {
     QueueLength,
     /// The oldest and the newest of such a class's requests are swapped.
     QueueOrder,
-    /// Tag, bank or kind of the newest one.
+    /// Tag, bank, kind or rank of the newest one.
     QueuedRequest,
     TurnsLeft,
     Mark,
@@ -157,10 +157,11 @@ impl Altered {
             }
             _ => {
                 let newest = own.queue.back_mut()?;
-                match seed % 3 {
+                match seed % 4 {
                     0 => newest.tag ^= 1,
                     1 => newest.bank ^= 1,
-                    _ => newest.kind ^= 1,
+                    2 => newest.kind ^= 1,
+                    _ => newest.rank ^= 1,
                 }
             }
         }

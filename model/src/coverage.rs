@@ -9,10 +9,10 @@ use crate::planted::Planted;
 use crate::policy::{self, Policy, LONGEST_EPOCH, LONGEST_FILE, MOST_CLASSES, SHORTEST_FILE};
 use crate::program::read_trace;
 use crate::refusal::Refusal;
-use crate::state::{self, Kind, Request, State, MOST_PASSES, QUEUE_LIMIT};
+use crate::state::{self, ranks, Kind, Request, State, MOST_PASSES, QUEUE_LIMIT, RANKS};
 use crate::tick::{
-    bank_gap_met, gap_of_all_met, gaps_met, offer_in_range, offset, tick_in_range, turn_number,
-    TickRecord, Wires,
+    bank_gap_met, gap_of_all_met, gaps_met, offer_in_range, offset, rank_gap_met, tick_in_range,
+    turn_number, TickRecord, Wires,
 };
 use crate::trace::{Word, OFFER_BIT, STRAY_BITS};
 
@@ -24,7 +24,7 @@ const REFUSALS: [u32; 12] = [1, 2, 3, 4, 5, 6, 7, 8, 9, 10, 11, 14];
 const FAIR: u64 = 5;
 
 /// Everything else that is counted.
-const CASES: [&str; 82] = [
+const CASES: [&str; 94] = [
     "file under 17 bytes",
     "file above 65,535 bytes",
     "least class not 0",
@@ -109,6 +109,19 @@ const CASES: [&str; 82] = [
     "a full queue held back by one busy bank alone",
     "a turn of a class starts with its count above 0",
     "a turn of another class starts with a count above 0",
+    // W-206.
+    "ten timing bytes",
+    "eleven timing bytes",
+    "a rank gap of 1",
+    "a rank gap of the dead time",
+    "offers of a rank other than 0 alone, with ten timing bytes",
+    "9 before 10 for the rank alone",
+    "10 for the rank alone before 11",
+    "held back by the rank gap alone",
+    "held back by a gap by kinds alone, after one on another rank",
+    "the oldest is passed for its rank alone",
+    "one bank number on two ranks back to back, closer than the same-bank gap",
+    "a bank again, after others of its number on other ranks",
 ];
 
 /// How often each case was met.
@@ -140,6 +153,7 @@ impl Coverage {
             .chain((0..31).map(lone_bit_name))
             .chain(STRAY_BITS.iter().map(|&bit| stray_bit_name(bit)))
             .chain((16..32).map(high_class_name))
+            .chain((0..RANKS).map(rank_name))
             .chain(neighbours().map(|(seen, hidden)| neighbours_name(seen, hidden)))
             .chain(CASES.iter().map(|name| name.to_string()))
             .map(|name| (name, Count { met: 0, needed: 1 }));
@@ -246,6 +260,15 @@ impl Coverage {
             timing.column_delay + 1 == timing.response_delay,
             "column delay one less than the answer delay",
         );
+        self.met(match timing.rank_gap {
+            None => "ten timing bytes",
+            Some(_) => "eleven timing bytes",
+        });
+        self.met_if(timing.rank_gap == Some(1), "a rank gap of 1");
+        self.met_if(
+            timing.rank_gap == Some(timing.dead_time),
+            "a rank gap of the dead time",
+        );
     }
 
     /// Counts neighbouring classes of which one may flow to some third class, and the other may
@@ -276,6 +299,9 @@ impl Coverage {
                     Ok(record) => {
                         self.add_tick(policy, state, &record);
                         self.add_first_that_can_go(policy, &before, state, &record);
+                        if let Wires::Activate(request) = record.wires {
+                            self.add_rank(policy, &before, &request);
+                        }
                         if record.turn.is_some() {
                             self.add_counts(&before, state.owner);
                             self.add_marks(policy, &before, state, taken);
@@ -301,19 +327,28 @@ impl Coverage {
     fn add_refused(&mut self, policy: &Policy, state: &State, request: &Request, by: Refusal) {
         self.met(&refusal_name(by.number()));
         let [bank, kind] = [request.bank > 7, request.kind > 1];
+        let rank = usize::from(request.rank) >= ranks(policy);
+        let rank_alone = rank && !bank && !kind;
         if by == Refusal::Class {
             self.met_if(bank || kind, "9 before 10");
+            self.met_if(rank_alone, "9 before 10 for the rank alone");
             // In four bits it would be a class.
             let high =
                 request.class >= 16 && usize::from(request.class - 16) < policy.class_count();
-            self.met_if(high && !bank && !kind, &high_class_name(request.class));
+            let sound = !bank && !kind && !rank;
+            self.met_if(high && sound, &high_class_name(request.class));
             return;
         }
-        self.met_if(bank && !kind, "offers of a bank above 7 alone");
-        self.met_if(kind && !bank, "offers of a kind above 1 alone");
+        self.met_if(bank && !kind && !rank, "offers of a bank above 7 alone");
+        self.met_if(kind && !bank && !rank, "offers of a kind above 1 alone");
+        self.met_if(
+            rank_alone,
+            "offers of a rank other than 0 alone, with ten timing bytes",
+        );
         let waiting = state.classes[usize::from(request.class)].queue.len();
         let full = waiting == QUEUE_LIMIT;
         self.met_if(by == Refusal::BankOrKind && full, "10 before 11");
+        self.met_if(rank_alone && full, "10 for the rank alone before 11");
     }
 
     /// Counts a malformed word that one bit makes so.
@@ -394,15 +429,16 @@ impl Coverage {
             Wires::Nothing if offset_allows(policy, state.elided, offset(policy, cycle)) => {
                 // No activate went out, so the state still has what the tick asked.
                 let younger = own.queue.iter().skip(1);
-                let mut free = younger.filter(|request| gaps_met(policy, state, request, cycle));
+                let mut free = younger
+                    .filter(|request| gaps_met(policy, state, request, cycle, Planted::Nothing));
                 let at_15 = own.passed == MOST_PASSES && free.next().is_some();
                 self.met_if(at_15, "a younger one held back by a count of 15 alone");
-                let of_one_bank = own.queue.iter().all(|request| request.bank == oldest.bank);
+                let mut banks = own.queue.iter().map(Request::bank_place);
+                let of_one_bank = banks.all(|place| place == oldest.bank_place());
                 self.met_if(
                     own.queue.len() == QUEUE_LIMIT
                         && of_one_bank
-                        && !bank_gap_met(policy, state, &oldest, cycle)
-                        && gap_of_all_met(policy, state, &oldest, cycle),
+                        && UnmetGaps::of(policy, state, &oldest, cycle) == UnmetGaps::BANK,
                     "a full queue held back by one busy bank alone",
                 );
                 return;
@@ -421,9 +457,14 @@ impl Coverage {
         let at_15 = waiting.passed == MOST_PASSES;
         self.met_if(first && at_15, "the oldest goes at a count of 15");
         if !first {
+            let unmet = UnmetGaps::of(policy, before, &oldest, cycle);
             self.met_if(
-                gap_of_all_met(policy, before, &oldest, cycle),
+                unmet == UnmetGaps::BANK,
                 "the oldest is passed for its bank alone",
+            );
+            self.met_if(
+                unmet == UnmetGaps::RANK,
+                "the oldest is passed for its rank alone",
             );
             self.met_if(
                 request.kind != oldest.kind,
@@ -431,6 +472,34 @@ impl Coverage {
             );
             self.met_if(own.passed == MOST_PASSES, "a count that reaches 15");
         }
+    }
+
+    /// Counts an activate of a file with a rank gap by the state before it.
+    fn add_rank(&mut self, policy: &Policy, before: &State, request: &Request) {
+        if policy.timing.rank_gap.is_none() {
+            return;
+        }
+        self.met(&rank_name(usize::from(request.rank)));
+        // Of the other ranks, the last activates of the bank with this number.
+        let others = (0..RANKS as u8).filter(|&rank| rank != request.rank);
+        let of_number = others.map(|rank| Request { rank, ..*request });
+        let of_number = of_number.filter_map(|other| before.last_of_bank[other.bank_place()]);
+        let last_of_number = of_number.max_by_key(|last| last.cycle);
+        let back_to_back = last_of_number.filter(|&last| Some(last) == before.last_activate);
+        let too_soon_on_one = back_to_back.is_some_and(|last| {
+            let gap = policy.timing.bank_gaps[last.kind as usize];
+            before.cycle < last.cycle + u32::from(gap)
+        });
+        self.met_if(
+            too_soon_on_one,
+            "one bank number on two ranks back to back, closer than the same-bank gap",
+        );
+        let own = before.last_of_bank[request.bank_place()];
+        let others_since = own.zip(last_of_number);
+        self.met_if(
+            others_since.is_some_and(|(own, other)| own.cycle < other.cycle),
+            "a bank again, after others of its number on other ranks",
+        );
     }
 
     /// Counts a turn's start by the counts before its first tick.
@@ -453,11 +522,10 @@ impl Coverage {
         };
         let column = matches!(record.wires, Wires::Column(_));
         let dead_time = !offset_allows(policy, state.elided, offset(policy, cycle));
-        let gap_of_all = !gap_of_all_met(policy, state, oldest, cycle);
-        let bank_gap = !bank_gap_met(policy, state, oldest, cycle);
-        match [column, gap_of_all, bank_gap, dead_time] {
-            [true, false, false, false] => self.met("held back by a due column alone"),
-            [false, true, false, false] => {
+        let gaps = UnmetGaps::of(policy, state, oldest, cycle);
+        match (column, gaps, dead_time) {
+            (true, UnmetGaps::NONE, false) => self.met("held back by a due column alone"),
+            (false, UnmetGaps::KINDS, false) => {
                 let kinds = state.last_activate.map(|last| (last.kind, oldest.kind()));
                 self.met(match kinds {
                     Some((Kind::Read, Kind::Read)) => "held back by the gap read-read alone",
@@ -465,15 +533,21 @@ impl Coverage {
                     Some((Kind::Write, Kind::Read)) => "held back by the gap write-read alone",
                     _ => "held back by the gap write-write alone",
                 });
+                let other_rank = state.last_activate.map(|last| last.rank) != Some(oldest.rank);
+                self.met_if(
+                    other_rank,
+                    "held back by a gap by kinds alone, after one on another rank",
+                );
             }
-            [false, false, true, false] => {
-                let last = state.last_of_bank[usize::from(oldest.bank)];
+            (false, UnmetGaps::RANK, false) => self.met("held back by the rank gap alone"),
+            (false, UnmetGaps::BANK, false) => {
+                let last = state.last_of_bank[oldest.bank_place()];
                 self.met(match last.map(|last| last.kind) {
                     Some(Kind::Read) => "held back by the same-bank gap after a read alone",
                     _ => "held back by the same-bank gap after a write alone",
                 });
             }
-            [false, false, false, true] => self.met("held back by the dead time alone"),
+            (false, UnmetGaps::NONE, true) => self.met("held back by the dead time alone"),
             _ => {}
         }
     }
@@ -625,6 +699,43 @@ impl Coverage {
     }
 }
 
+/// The gaps of a request that are not met.
+#[derive(PartialEq, Eq)]
+struct UnmetGaps {
+    kinds: bool,
+    rank: bool,
+    bank: bool,
+}
+
+impl UnmetGaps {
+    const NONE: UnmetGaps = UnmetGaps {
+        kinds: false,
+        rank: false,
+        bank: false,
+    };
+    // Of each of the three, that gap alone.
+    const KINDS: UnmetGaps = UnmetGaps {
+        kinds: true,
+        ..UnmetGaps::NONE
+    };
+    const RANK: UnmetGaps = UnmetGaps {
+        rank: true,
+        ..UnmetGaps::NONE
+    };
+    const BANK: UnmetGaps = UnmetGaps {
+        bank: true,
+        ..UnmetGaps::NONE
+    };
+
+    fn of(policy: &Policy, state: &State, request: &Request, cycle: u32) -> UnmetGaps {
+        UnmetGaps {
+            kinds: !gap_of_all_met(policy, state, request, cycle),
+            rank: !rank_gap_met(policy, state, request, cycle, Planted::Nothing),
+            bank: !bank_gap_met(policy, state, request, cycle),
+        }
+    }
+}
+
 /// The turns that a class with two or more children has taken since it last
 /// passed one on, by the mark that stayed.
 #[derive(Clone, Copy, Default)]
@@ -678,6 +789,11 @@ fn neighbours() -> impl Iterator<Item = (usize, usize)> {
 /// A class that another one sees, beside one that it does not see.
 fn neighbours_name(seen: usize, hidden: usize) -> String {
     format!("class {seen:02} seen beside class {hidden:02} hidden")
+}
+
+/// An activate of a file with a rank gap.
+fn rank_name(rank: usize) -> String {
+    format!("activates on rank {rank}")
 }
 
 /// An offer of a class that no policy has, but sound apart from it.

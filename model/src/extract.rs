@@ -36,7 +36,7 @@ pub fn extract_planted(
     planted: Planted,
 ) -> Result<usize, Refusal> {
     // The policy is all that 13 can ask of an extract: no state is handed in.
-    if !policy.in_range() {
+    if !policy.in_range_planted(planted) {
         return Err(Refusal::OutOfRange);
     }
     if class >= policy.class_count() {

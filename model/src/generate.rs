@@ -4,7 +4,7 @@
 use crate::masks::{below_mask, class_mask};
 use crate::policy::{self, Policy, LONGEST_EPOCH, MOST_CLASSES, TIMING_LENGTH};
 use crate::random::Random;
-use crate::state::{Request, BANKS, QUEUE_LIMIT};
+use crate::state::{ranks, Request, BANKS, QUEUE_LIMIT, RANKS};
 use crate::trace::{offer_word, STRAY_BITS};
 
 /// The two files that the program reads.
@@ -63,7 +63,7 @@ pub struct PolicyFields {
     pub rows: Vec<u16>,
     pub epoch: u8,
     pub minimums: Vec<u8>,
-    /// The timing body; ten bytes where it is sound.
+    /// The timing body; where it is sound ten bytes, or eleven with a rank gap.
     pub timing: Vec<u8>,
 }
 
@@ -77,6 +77,12 @@ impl PolicyFields {
             minimums: minimums.to_vec(),
             timing: timing.to_vec(),
         }
+    }
+
+    /// The same with an eleventh timing byte.
+    pub fn with_rank_gap(mut self, gap: u8) -> Self {
+        self.timing.push(gap);
+        self
     }
 
     /// The file: "a contents table, then the bodies", which abut.
@@ -124,7 +130,19 @@ pub fn sound_fields(random: &mut Random) -> PolicyFields {
     let n = random.between(1, MOST_CLASSES + 2).min(MOST_CLASSES);
     let rows = sound_rows(random, n);
     let (epoch, minimums) = sound_turns(random, &rows);
-    PolicyFields::new(&rows, epoch, &minimums, sound_timing(random))
+    let fields = PolicyFields::new(&rows, epoch, &minimums, sound_timing(random));
+    with_rank_gap_at_times(random, fields)
+}
+
+/// Ten timing bytes are left so in half of the cases, and else get a rank gap, often at its
+/// edges. Ranks are drawn aside: but for them, a seed gives what it gave before W-206.
+pub(crate) fn with_rank_gap_at_times(random: &Random, fields: PolicyFields) -> PolicyFields {
+    let aside = &mut random.aside();
+    if aside.percent(50) {
+        return fields;
+    }
+    let dead_time = usize::from(fields.timing[1]);
+    fields.with_rank_gap(edge_or_between(aside, 1, dead_time) as u8)
 }
 
 /// The rows of an order with a least class, of one of five shapes, with the
@@ -263,7 +281,7 @@ const fn damage(number: u32, name: &'static str, file: fn(&mut Random) -> Vec<u8
 }
 
 /// Every way to damage a policy file on purpose, by the number it gets.
-pub const DAMAGES: [Damage; 61] = [
+pub const DAMAGES: [Damage; 63] = [
     damage(1, "empty", |_| Vec::new()),
     damage(1, "cut below 17 bytes", |random| cut_to(random, 1, 16)),
     damage(1, "cut below its last byte", |random| {
@@ -407,10 +425,10 @@ pub const DAMAGES: [Damage; 61] = [
         order.extend(fields.rows.iter().flat_map(|row| row.to_le_bytes()));
         encode_bodies(&order, &[], &fields.timing)
     }),
-    damage(2, "a timing byte more", |random| {
-        with_fields(random, |_, fields| fields.timing.push(2))
+    damage(2, "12 timing bytes", |random| {
+        with_fields(random, |_, fields| fields.timing.resize(12, 2))
     }),
-    damage(2, "a timing byte less", |random| {
+    damage(2, "9 timing bytes", |random| {
         with_fields(random, |_, fields| fields.timing.truncate(9))
     }),
     damage(2, "no timing body", |random| {
@@ -530,6 +548,19 @@ pub const DAMAGES: [Damage; 61] = [
             fields.timing[8] = *random.pick(&[0, fields.timing[9], fields.timing[9] + 1, 255]);
         })
     }),
+    damage(8, "a rank gap of 0", |random| {
+        with_fields(random, |_, fields| {
+            fields.timing.truncate(TIMING_LENGTH);
+            fields.timing.push(0);
+        })
+    }),
+    damage(8, "a rank gap above the dead time", |random| {
+        with_fields(random, |random, fields| {
+            let gap = *random.pick(&[fields.timing[1] + 1, fields.timing[0], 255]);
+            fields.timing.truncate(TIMING_LENGTH);
+            fields.timing.push(gap);
+        })
+    }),
 ];
 
 fn sound_file(random: &mut Random) -> Vec<u8> {
@@ -586,7 +617,8 @@ fn apart(random: &mut Random, body: usize) -> Vec<u8> {
 /// A file of a given length whose last body is too long, as its length says.
 fn padded_to(random: &mut Random, length: usize) -> Vec<u8> {
     let mut file = sound_file(random);
-    let last_start = file.len() - TIMING_LENGTH;
+    // The low byte of the last body's start; the high byte of a sound file's is 0.
+    let last_start = usize::from(file[12]);
     file.resize(length, 0);
     file[14..16].copy_from_slice(&((length - last_start) as u16).to_le_bytes());
     file
@@ -636,7 +668,10 @@ const FAULTS: [fn(&mut Random, &mut PolicyFields); 8] = [
         let class = random.below(fields.minimums.len());
         fields.minimums[class] = 65;
     },
-    |random, fields| fields.timing[random.below(TIMING_LENGTH)] = 0,
+    |random, fields| {
+        let place = random.below(fields.timing.len());
+        fields.timing[place] = 0;
+    },
 ];
 
 fn flipped_bit(random: &mut Random) -> Vec<u8> {
@@ -700,6 +735,7 @@ fn stretches(
         numbers: Vec::new(),
         cycle: 0,
         banks: 8,
+        ranks: 1,
     };
     while !enough(&writer) {
         writer.stretch();
@@ -715,11 +751,15 @@ struct TraceWriter<'a> {
     cycle: usize,
     /// Offers use banks below this; few banks make same-bank gaps bite.
     banks: usize,
+    /// Offers use ranks below this; with ten timing bytes it is 1.
+    ranks: usize,
 }
 
 impl TraceWriter<'_> {
     fn stretch(&mut self) {
         self.banks = *self.random.pick(&[1, 2, 8]);
+        let in_use = *self.random.aside().pick(&[1, 2, RANKS]);
+        self.ranks = in_use.min(ranks(self.policy));
         match self.random.below(110) {
             0..=9 => self.burst(),
             10..=19 => self.idle(),
@@ -748,8 +788,14 @@ impl TraceWriter<'_> {
     }
 
     fn offer(&mut self, class: u8) {
-        self.numbers
-            .push(sound_offer(self.random, class, self.banks));
+        let word = sound_offer(self.random, class, self.banks);
+        self.push_on_a_rank(word);
+    }
+
+    /// Puts an offer at the end, on one of the ranks in use.
+    fn push_on_a_rank(&mut self, word: u32) {
+        let rank = self.random.aside().below(self.ranks);
+        self.numbers.push(on_rank(word, rank));
     }
 
     /// Several offers of one class, then some ticks.
@@ -813,7 +859,7 @@ impl TraceWriter<'_> {
         }
         if self.random.percent(30) {
             // 10 comes before 11.
-            let refused = refused_offer(self.random, class);
+            let refused = offer_that_10_refuses(self.random, self.policy, class);
             self.numbers.push(refused);
         }
         let count = self.random.below(6);
@@ -826,14 +872,14 @@ impl TraceWriter<'_> {
         let class = self.any_class();
         let busy = self.random.below(BANKS) as u8;
         for _ in 0..QUEUE_LIMIT {
-            let number = busy_bank_offer(self.random, class, busy, 100);
-            self.numbers.push(number);
+            let word = busy_bank_offer(self.random, class, busy, 100);
+            self.push_on_a_rank(word);
         }
         for _ in 0..self.random.between(10, 40) {
             self.ticks(1);
             if self.random.percent(60) {
-                let number = busy_bank_offer(self.random, class, busy, 70);
-                self.numbers.push(number);
+                let word = busy_bank_offer(self.random, class, busy, 70);
+                self.push_on_a_rank(word);
             }
         }
     }
@@ -843,16 +889,16 @@ impl TraceWriter<'_> {
     fn slow_kind(&mut self) {
         let class = self.any_class();
         let slow = kind_offer(self.random, class, 1 - quick_kind(self.policy));
-        self.numbers.push(slow);
+        self.push_on_a_rank(slow);
         for _ in 1..QUEUE_LIMIT {
-            let number = quick_kind_offer(self.random, self.policy, class);
-            self.numbers.push(number);
+            let word = quick_kind_offer(self.random, self.policy, class);
+            self.push_on_a_rank(word);
         }
         for _ in 0..self.random.between(30, 80) {
             self.ticks(1);
             if self.random.percent(60) {
-                let number = quick_kind_offer(self.random, self.policy, class);
-                self.numbers.push(number);
+                let word = quick_kind_offer(self.random, self.policy, class);
+                self.push_on_a_rank(word);
             }
         }
     }
@@ -894,14 +940,20 @@ impl TraceWriter<'_> {
     }
 }
 
-/// An offer with a bank below a bound, of either kind, with any tag.
+/// An offer with a bank below a bound, of either kind, with any tag, on rank 0.
 pub fn sound_offer(random: &mut Random, class: u8, banks: usize) -> u32 {
     offer_word(&Request {
         class,
         kind: random.below(2) as u8,
+        rank: 0,
         bank: random.below(banks) as u8,
         tag: random.next() as u16,
     })
+}
+
+/// An offer on rank 0 as one on another rank.
+pub fn on_rank(word: u32, rank: usize) -> u32 {
+    word | (rank as u32) << 22
 }
 
 /// An offer of one bank in so many of a hundred cases, and else of any.
@@ -913,6 +965,7 @@ pub fn busy_bank_offer(random: &mut Random, class: u8, busy: u8, percent: usize)
     offer_word(&Request {
         class,
         kind: random.below(2) as u8,
+        rank: 0,
         bank,
         tag: random.next() as u16,
     })
@@ -938,17 +991,20 @@ fn kind_offer(random: &mut Random, class: u8, kind: u8) -> u32 {
     offer_word(&Request {
         class,
         kind,
+        rank: 0,
         bank: random.below(BANKS) as u8,
         tag: random.next() as u16,
     })
 }
 
-/// A number that gives 9, 10 or 14. The class is that of offers which are
-/// refused for bank or kind alone.
+/// A number that gives 9, 10 or 14. The class is that of offers which 10 refuses.
 fn noise_word(random: &mut Random, policy: &Policy, class: u8) -> u32 {
     match random.below(3) {
-        0 => missing_class_word(random, policy),
-        1 => refused_offer(random, class),
+        0 => {
+            let word = missing_class_word(random, policy);
+            on_rank(word, *random.aside().pick(&[0, 0, 0, 1, 2, 3]))
+        }
+        1 => offer_that_10_refuses(random, policy, class),
         _ => malformed_word(random),
     }
 }
@@ -962,6 +1018,19 @@ pub fn missing_class_word(random: &mut Random, policy: &Policy) -> u32 {
 /// An offer of a bank above 7, of a kind above 1, or of both.
 pub fn refused_offer(random: &mut Random, class: u8) -> u32 {
     sound_offer(random, class, 8) | *random.pick(&[8 << 16, 2 << 20, 8 << 16 | 2 << 20])
+}
+
+/// The same on any rank; and, with ten timing bytes, at times one of another rank than 0 that
+/// is sound apart from that.
+pub(crate) fn offer_that_10_refuses(random: &mut Random, policy: &Policy, class: u8) -> u32 {
+    let word = refused_offer(random, class);
+    let aside = &mut random.aside();
+    if ranks(policy) == 1 && aside.percent(50) {
+        let sound = word & !(8 << 16 | 2 << 20);
+        on_rank(sound, aside.between(1, RANKS - 1))
+    } else {
+        on_rank(word, aside.below(RANKS))
+    }
 }
 
 /// A number of neither form: an offer with bits set that must be 0, at times one

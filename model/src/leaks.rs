@@ -13,7 +13,7 @@ use crate::state::State;
 use crate::tick::{offer_planted, tick_planted};
 use crate::trace::{run_planted, tick_line, Word, LINE};
 
-pub use crate::pairs::{pair, purge, Cut, Pair};
+pub use crate::pairs::{pair, pair_planted, purge, Cut, Pair};
 
 /// The number of pairs in which the model as it is must show no leak, nor the
 /// library.
@@ -26,7 +26,7 @@ pub const PAIRS_ENOUGH: u64 = ORDINARY_PAIRS / 10;
 /// A leak: a pair of lists that agree for L, and what differs.
 #[derive(Clone, Debug, PartialEq, Eq)]
 pub struct Leak {
-    /// The seed of the pair: [`pair`] makes it again.
+    /// The seed of the pair: [`pair_planted`] makes it again.
     pub seed: u64,
     pub class: usize,
     /// The comparison that told.
@@ -62,7 +62,7 @@ pub fn search(count: u64) -> Search {
 
 /// The same search with a wrong rule in place. For tests.
 pub fn search_planted(count: u64, planted: Planted) -> Search {
-    search_pairs(count, planted, pair)
+    search_pairs(count, planted, pair_planted)
 }
 
 /// The same from states in which turns are used up and counts are any. For tests.
@@ -70,10 +70,10 @@ pub fn search_used_up(count: u64, planted: Planted) -> Search {
     search_pairs(count, planted, pair_from_used_up)
 }
 
-fn search_pairs(count: u64, planted: Planted, pair: fn(u64) -> Pair) -> Search {
+fn search_pairs(count: u64, planted: Planted, pair: fn(u64, Planted) -> Pair) -> Search {
     let mut search = Search::default();
     for seed in 0..count {
-        let pair = pair(seed);
+        let pair = pair(seed, planted);
         let done = [0, 1].map(|side| perform(&pair, side, planted));
         let outcomes = outcomes(&pair, &done, planted);
         let extract = &outcomes[0].extract;

@@ -14,16 +14,16 @@
 //! | Trace and log                      | [`trace`]               |
 //! | The extract                        | [`extract`]             |
 //! | Two lists side by side             | [`leaks`], [`pairs`]    |
-//! | Promises of W-202, W-203 and W-209 | [`promises`]            |
+//! | Promises of document 02            | [`promises`]            |
 //! | The program                        | [`program`]             |
 //! | What is turned down                | [`refusal`]             |
 //!
 //! [`generate`] makes policies and traces from a seed, [`coverage`] counts
 //! what they exercise, [`random`] is the source of chance of both, [`reader`] is
-//! W-203's rule as a reader of trace and log sees it, and [`planted`] holds wrong rules, of which the searches for leaks and for broken
-//! promises must find those that leak or break one; [`altered`] holds the faults by
-//! which the comparison of the search for leaks is tested, and [`met`] counts what it
-//! meets.
+//! W-203's rule, with W-206's gaps, as a reader of trace and log sees it, and [`planted`]
+//! holds wrong rules, of which the searches for leaks and for broken promises must find
+//! those that leak or break one; [`altered`] holds the faults by which the comparison of
+//! the search for leaks is tested, and [`met`] counts what it meets.
 //!
 //! The text in quotation marks above a rule is document 01's own, or that of
 //! document 02's request which is named before it.

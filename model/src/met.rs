@@ -8,14 +8,14 @@ use crate::pairs::{Cut, Pair};
 use crate::policy::MOST_CLASSES;
 use crate::reader::Reader;
 use crate::refusal::Refusal;
-use crate::state::MOST_PASSES;
+use crate::state::{Request, MOST_PASSES};
 use crate::tick::turn_number;
 use crate::trace::{Word, COLUMN_BIT, ELIDED, LINE, OFFER_BIT};
 
 /// What is counted, and how much of it so many pairs must have met.
 type Counted = (&'static str, fn(u64) -> u64);
 
-const COUNTED: [Counted; 43] = [
+const COUNTED: [Counted; 51] = [
     ("pairs compared", |pairs| pairs),
     ("pairs of different lists", |pairs| pairs / 2),
     ("pairs with lists of different lengths", |pairs| pairs / 2),
@@ -70,6 +70,21 @@ const COUNTED: [Counted; 43] = [
     ("oldest requests passed 15 times, seen", |pairs| pairs / 50),
     ("oldest requests passed 15 times, hidden", |pairs| {
         pairs / 200
+    }),
+    // W-206.
+    ("pairs with ten timing bytes", |pairs| pairs / 3),
+    ("pairs with a rank gap", |pairs| pairs / 3),
+    ("pairs with a rank gap of 1", |pairs| pairs / 20),
+    ("pairs with a rank gap of the dead time", |pairs| pairs / 20),
+    ("activates after one on another rank, seen", |pairs| pairs),
+    ("activates after one on another rank, hidden", |pairs| pairs),
+    // Here a rank gap could tell L of what it may not see.
+    (
+        "seen activates after a hidden one on another rank",
+        |pairs| pairs / 5,
+    ),
+    ("offers seen that 10 refuses for their rank", |pairs| {
+        pairs / 20
     }),
 ];
 
@@ -135,9 +150,11 @@ impl Met {
         self.add_seen(extract);
     }
 
-    /// Counts the activates of requests that were not the oldest of their class.
+    /// Counts the activates of requests that were not the oldest of their class, and those
+    /// after one on another rank.
     fn add_passes(&mut self, pair: &Pair, side: usize, log: &[u32]) {
         let mut reader = Reader::new(&pair.policy, pair.start.cycle);
+        let mut last = None;
         for (&number, line) in pair.lists[side].iter().zip(log.chunks_exact(LINE)) {
             let Some(tick) = reader.read(number, line) else {
                 continue;
@@ -145,6 +162,7 @@ impl Met {
             let Some((request, place)) = tick.activated else {
                 continue;
             };
+            self.add_rank(pair, last.replace(request), request);
             let passed = place.is_some_and(|place| place > 0);
             let fifteenth = passed && tick.passes + 1 == u32::from(MOST_PASSES);
             let (name, name_of_15) = match pair.sees(usize::from(request.class)) {
@@ -162,8 +180,33 @@ impl Met {
         }
     }
 
+    /// Counts an activate by the one before it.
+    fn add_rank(&mut self, pair: &Pair, last: Option<Request>, request: Request) {
+        let Some(last) = last.filter(|last| last.rank != request.rank) else {
+            return;
+        };
+        let sees = |request: Request| pair.sees(usize::from(request.class));
+        let name = match sees(request) {
+            true => "activates after one on another rank, seen",
+            false => "activates after one on another rank, hidden",
+        };
+        self.add(name, 1);
+        self.add_if(
+            sees(request) && !sees(last),
+            "seen activates after a hidden one on another rank",
+        );
+    }
+
     fn add_policy(&mut self, pair: &Pair) {
         let policy = &pair.policy;
+        let timing = &policy.timing;
+        let ten_bytes = timing.rank_gap.is_none();
+        self.add_if(ten_bytes, "pairs with ten timing bytes");
+        self.add_if(!ten_bytes, "pairs with a rank gap");
+        let shortest = timing.rank_gap == Some(1);
+        self.add_if(shortest, "pairs with a rank gap of 1");
+        let longest = timing.rank_gap == Some(timing.dead_time);
+        self.add_if(longest, "pairs with a rank gap of the dead time");
         let n = policy.class_count();
         let sees_all = (0..n).all(|class| pair.sees(class));
         self.add_if(sees_all, "pairs in which all classes may flow to L");
@@ -228,11 +271,17 @@ impl Met {
             self.add_if(single, "lists to be cut into single calls");
         }
         let [mut hidden, mut beside_seen, mut missing, mut malformed] = [0; 4];
+        let mut seen_of_no_rank = 0;
         for &number in left.iter().chain(right) {
             match Word::of(number) {
                 Word::Offer(request) => {
                     let class = usize::from(request.class);
                     let exists = class < pair.policy.class_count();
+                    let on_rank_0 = Request { rank: 0, ..request };
+                    let [refused, otherwise] =
+                        [request, on_rank_0].map(|request| request.refused_by(&pair.policy));
+                    let by_rank = refused.is_some() && otherwise.is_none();
+                    seen_of_no_rank += usize::from(by_rank && pair.sees(class));
                     if exists && !pair.sees(class) {
                         hidden += 1;
                         let below = class.checked_sub(1).is_some_and(|below| pair.sees(below));
@@ -248,6 +297,10 @@ impl Met {
         self.add("offers of hidden classes beside a seen one", beside_seen);
         self.add("offers of missing classes", missing);
         self.add("malformed words", malformed);
+        self.add(
+            "offers seen that 10 refuses for their rank",
+            seen_of_no_rank,
+        );
     }
 
     fn add_seen(&mut self, extract: &[u32]) {

@@ -9,14 +9,14 @@
 
 use crate::extract::{extract_planted, is_kept};
 use crate::generate::{
-    busy_bank_offer, malformed_word, missing_class_word, quick_kind_offer, refused_offer,
-    sound_offer, sound_rows, sound_timing, PolicyFields,
+    busy_bank_offer, malformed_word, missing_class_word, offer_that_10_refuses, on_rank,
+    quick_kind_offer, sound_offer, sound_rows, sound_timing, with_rank_gap_at_times, PolicyFields,
 };
 use crate::planted::Planted;
 use crate::policy::{self, Policy, LONGEST_EPOCH, MOST_CLASSES, TIMING_LENGTH};
 use crate::random::Random;
 use crate::refusal::Refusal;
-use crate::state::{self, Request, State, BANKS, MOST_PASSES, QUEUE_LIMIT};
+use crate::state::{self, ranks, Request, State, BANKS, MOST_PASSES, QUEUE_LIMIT, RANKS};
 use crate::tick::{offset, turn_number};
 use crate::trace::{offer_word, run_line, LINE};
 
@@ -96,14 +96,21 @@ const LONG_SINCE: usize = 256;
 
 /// The pair of a seed. Its lists go on from the fresh state.
 pub fn pair(seed: u64) -> Pair {
-    pair_from(seed, |policy, _| state::fresh(policy).0)
+    pair_planted(seed, Planted::Nothing)
+}
+
+/// The same for a search with a wrong rule in place: where that takes more policies, the
+/// pair's is one of those.
+pub fn pair_planted(seed: u64, planted: Planted) -> Pair {
+    let fresh = |policy: &Policy, _: &mut Random| state::fresh_planted(policy, planted).0;
+    pair_from(seed, fresh, planted)
 }
 
 /// The same from a state in which turns are used up as no list of calls uses them up:
 /// W-202's plan gives a class at most as many turns as its cap. Demand 3 says nothing of
 /// such states, and yet the rules for turns left must not leak in them.
-pub(crate) fn pair_from_used_up(seed: u64) -> Pair {
-    pair_from(seed, used_up)
+pub(crate) fn pair_from_used_up(seed: u64, planted: Planted) -> Pair {
+    pair_from(seed, used_up, planted)
 }
 
 /// A state at a turn's start, with any marks, any counts, which are often 15, and any turns
@@ -123,7 +130,7 @@ fn used_up(policy: &Policy, random: &mut Random) -> State {
     state
 }
 
-fn pair_from(seed: u64, start: fn(&Policy, &mut Random) -> State) -> Pair {
+fn pair_from(seed: u64, start: impl Fn(&Policy, &mut Random) -> State, planted: Planted) -> Pair {
     let random = &mut Random::new(seed);
     // Many short pairs and few long ones: a short one shows most leaks, and the
     // long ones are for what takes long turns, long epochs or great ages.
@@ -132,8 +139,8 @@ fn pair_from(seed: u64, start: fn(&Policy, &mut Random) -> State) -> Pair {
         2..=11 => 1_000,
         _ => 240,
     };
-    let file = searched_file(random, most_ticks);
-    let (policy, _) = policy::read(&file);
+    let file = searched_file(random, most_ticks, planted);
+    let (policy, _) = policy::read_planted(&file, planted);
     let class = searched_class(random, &policy);
     let ticks = searched_ticks(random, &policy, most_ticks);
     let cuts = [0, 1].map(|_| match random.below(20) {
@@ -155,7 +162,7 @@ fn pair_from(seed: u64, start: fn(&Policy, &mut Random) -> State) -> Pair {
 
 /// Mostly few classes, so that each has a part in the lists, and sixteen in a
 /// fair share, since the highest class number is an edge.
-fn searched_file(random: &mut Random, most_ticks: usize) -> Vec<u8> {
+fn searched_file(random: &mut Random, most_ticks: usize, planted: Planted) -> Vec<u8> {
     let n = match random.below(10) {
         0 | 1 => MOST_CLASSES,
         2 => random.between(1, MOST_CLASSES),
@@ -178,7 +185,14 @@ fn searched_file(random: &mut Random, most_ticks: usize) -> Vec<u8> {
     for _ in 0..sum {
         minimums[only.unwrap_or_else(|| random.below(n))] += 1;
     }
-    PolicyFields::new(&rows, epoch as u8, &minimums, timing).encode()
+    let fields = PolicyFields::new(&rows, epoch as u8, &minimums, timing);
+    let fields = match planted {
+        // Two more than the dead time is the shortest that can show: a turn starts one cycle
+        // more than the dead time after the last cycle for activates of the one before.
+        Planted::RankGapAboveDeadTime => fields.with_rank_gap(timing[1] + 2),
+        _ => with_rank_gap_at_times(random, fields),
+    };
+    fields.encode()
 }
 
 /// Short turns, so that a list has many of them; in long lists also longer ones
@@ -311,6 +325,14 @@ fn habits(random: &mut Random, n: usize, out_of: &[Habit]) -> Vec<Habit> {
     (0..n).map(|_| *random.pick(out_of)).collect()
 }
 
+/// How many banks and ranks the offers of a pair use, from number 0 on. With ten timing bytes
+/// there is but one rank.
+#[derive(Clone, Copy)]
+struct InUse {
+    banks: usize,
+    ranks: usize,
+}
+
 /// One of the two lists, and where it has led.
 struct Side<'a> {
     policy: &'a Policy,
@@ -363,23 +385,25 @@ impl Side<'_> {
         }
     }
 
-    /// An offer of a class. At times its bank and kind are those of a request
-    /// that waits, or of the bank that was activated last or has been left alone
-    /// longest: gaps then come to bear, or must not.
-    fn offer(&self, random: &mut Random, habit: Habit, class: usize, banks: usize) -> u32 {
+    /// An offer of a class, on any of the ranks in use. At times its bank, rank and kind are
+    /// those of a request that waits, or of the bank that was activated last or has been left
+    /// alone longest: gaps then come to bear, or must not.
+    fn offer(&self, random: &mut Random, habit: Habit, class: usize, in_use: InUse) -> u32 {
         let word = match habit {
             // Of all classes it is the same bank.
-            Habit::BusyBank => return busy_bank_offer(random, class as u8, 0, 70),
-            Habit::QuickKind => return quick_kind_offer(random, self.policy, class as u8),
-            _ => sound_offer(random, class as u8, banks),
+            Habit::BusyBank => busy_bank_offer(random, class as u8, 0, 70),
+            Habit::QuickKind => quick_kind_offer(random, self.policy, class as u8),
+            _ => sound_offer(random, class as u8, in_use.banks),
         };
-        if !random.percent(30) {
+        let word = on_rank(word, random.aside().below(in_use.ranks));
+        if matches!(habit, Habit::BusyBank | Habit::QuickKind) || !random.percent(30) {
             return word;
         }
-        let aimed = |bank: u8, kind: u8| {
+        let aimed = |rank: u8, bank: u8, kind: u8| {
             offer_word(&Request {
                 class: class as u8,
                 kind,
+                rank,
                 bank,
                 tag: word as u16,
             })
@@ -388,15 +412,17 @@ impl Side<'_> {
             .queue
             .front();
         if let Some(head) = waiting {
-            return aimed(head.bank, head.kind);
+            return aimed(head.rank, head.bank, head.kind);
         }
         let used = (0u8..).zip(&self.state.last_of_bank);
-        let used = used.filter_map(|(bank, last)| last.map(|last| (bank, last)));
+        let used = used.filter_map(|(place, last)| last.map(|last| (place, last)));
         let bank = match random.below(2) {
             0 => used.max_by_key(|(_, last)| last.cycle),
             _ => used.min_by_key(|(_, last)| last.cycle),
         };
-        bank.map_or(word, |(bank, last)| aimed(bank, last.kind as u8))
+        bank.map_or(word, |(place, last)| {
+            aimed(last.rank, place % BANKS as u8, last.kind as u8)
+        })
     }
 
     /// The offers that some classes make before the next tick.
@@ -405,17 +431,17 @@ impl Side<'_> {
         random: &mut Random,
         classes: &[usize],
         habits: &[Habit],
-        banks: usize,
+        in_use: InUse,
     ) -> Vec<u32> {
         let mut offers = Vec::new();
         for &class in classes {
             for _ in 0..self.offers_of(random, habits[class], class) {
-                offers.push(self.offer(random, habits[class], class, banks));
+                offers.push(self.offer(random, habits[class], class, in_use));
             }
         }
         if !classes.is_empty() && random.percent(2) {
             let class = *random.pick(classes) as u8;
-            offers.push(refused_offer(random, class));
+            offers.push(offer_that_10_refuses(random, self.policy, class));
         }
         offers
     }
@@ -463,6 +489,11 @@ fn agreeing_lists(
     } else {
         *random.pick(&[1, 2, BANKS])
     };
+    let some_ranks = *random.aside().pick(&[1, 2, 2, RANKS]);
+    let in_use = InUse {
+        banks,
+        ranks: some_ranks.min(ranks(policy)),
+    };
     let mut sides = [(); 2].map(|()| Side {
         policy,
         list: Vec::new(),
@@ -472,9 +503,9 @@ fn agreeing_lists(
     // one of the two alone.
     let open_end = random.percent(30);
     for tick in 0..ticks + usize::from(open_end) {
-        let shared = sides[0].offers(random, &seen, &seen_habits, banks);
+        let shared = sides[0].offers(random, &seen, &seen_habits, in_use);
         for (side, habits) in sides.iter_mut().zip(&hidden_habits) {
-            let mut own = side.offers(random, &hidden, habits, banks);
+            let mut own = side.offers(random, &hidden, habits, in_use);
             if random.percent(if tick < ticks { 3 } else { 60 }) {
                 let mut noise = [malformed_word(random), missing_class_word(random, policy)];
                 // Either may be the last number of a list.

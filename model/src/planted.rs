@@ -5,7 +5,7 @@
 /// Which wrong rule is in place.
 #[derive(Clone, Copy, Debug, Default, PartialEq, Eq)]
 pub enum Planted {
-    /// None: the rules of document 01 with W-201, W-202 and W-203. Every tick, run,
+    /// None: the rules of document 01 with W-201, W-202, W-203 and W-206. Every tick, run,
     /// extract and program uses this.
     #[default]
     Nothing,
@@ -119,10 +119,26 @@ pub enum Planted {
     /// which the masks of classes 9 and 10 are swapped. The set is asked by the bits
     /// themselves: if the swapped masks asked it too, it would be as if nothing were swapped.
     MasksOf9And10Swapped,
+    /// A rank gap longer than the dead time is taken, in a file and in a policy that is handed
+    /// in. It leaks: an activate of a hidden class may hold one back that L sees. The pairs of
+    /// this search have such rank gaps.
+    RankGapAboveDeadTime,
+    /// Of the requests whose gaps are met, one on the rank of the last activate of all goes
+    /// first, however long ago that was and whoever made it.
+    LastRankFirst,
+    /// The rank gap is kept from the last activate of all where that was on the same rank, and
+    /// not where it was on another. It does not leak, since a gap of at most the dead time is
+    /// over wherever a turn follows that of a class which may not flow to its owner: it is a
+    /// wrong rule, and breaks promises.
+    RankGapOnTheSameRank,
+    /// A bank's last activate is kept by the bank's number alone, with its rank: one on another
+    /// rank takes its place, and the same-bank gap is not kept from what was there. It does not
+    /// leak, for the same reason.
+    BankForgottenForAnotherRank,
 }
 
 /// Every wrong rule that leaks in a list of calls from a fresh state.
-pub const LEAKS: [Planted; 23] = [
+pub const LEAKS: [Planted; 25] = [
     Planted::AlwaysElided,
     Planted::Document000Elision,
     Planted::EpochEndForgotten,
@@ -146,4 +162,6 @@ pub const LEAKS: [Planted; 23] = [
     Planted::LastBankLast,
     Planted::MaskOf5With6,
     Planted::MasksOf9And10Swapped,
+    Planted::RankGapAboveDeadTime,
+    Planted::LastRankFirst,
 ];

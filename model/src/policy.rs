@@ -1,5 +1,6 @@
 //! "The policy file": reading it, and what follows from it.
 
+use crate::planted::Planted;
 use crate::refusal::Refusal;
 
 /// "up to 16 security classes"
@@ -9,7 +10,7 @@ pub const LONGEST_EPOCH: u8 = 64;
 /// "file under 17 or above 65,535 bytes" gets 1.
 pub const SHORTEST_FILE: usize = 17;
 pub const LONGEST_FILE: usize = 65_535;
-/// "Timing, 10 bytes"
+/// "Timing, 10 bytes". W-206: "The timing body may have an eleventh byte".
 pub const TIMING_LENGTH: usize = 10;
 
 /// "The bodies follow from byte 16": the contents table is the count and three
@@ -31,6 +32,9 @@ pub struct Timing {
     pub column_delay: u8,
     /// Document 01: answer delay.
     pub response_delay: u8,
+    /// W-206: the gap from the last activate of all where that was on another rank. There
+    /// is none where the file has ten timing bytes.
+    pub rank_gap: Option<u8>,
 }
 
 /// A policy as it is handed to ticks, offers, runs and extracts. The fields are
@@ -118,19 +122,28 @@ impl Policy {
     /// The policy's part of 13: "a policy that 2 to 8 would refuse, or whose
     /// stored children or caps are not its order's".
     pub fn in_range(&self) -> bool {
-        self.first_refusal().is_none()
+        self.in_range_planted(Planted::Nothing)
+    }
+
+    pub(crate) fn in_range_planted(&self, planted: Planted) -> bool {
+        self.first_refusal(planted).is_none()
             && self.covers == covers_of_order(self)
             && self.caps == caps_of_order(self)
     }
 
     /// The first of 2 to 8 that refuses these numbers.
-    fn first_refusal(&self) -> Option<Refusal> {
-        self.refusals().next()
+    fn first_refusal(&self, planted: Planted) -> Option<Refusal> {
+        self.refusals(planted).next()
     }
 
     /// Every one of 2 to 8 that refuses these numbers, by rising number. After 2
     /// no more may be asked: the later ones go by n.
-    pub(crate) fn refusals(&self) -> impl Iterator<Item = Refusal> + '_ {
+    pub(crate) fn refusals(&self, planted: Planted) -> impl Iterator<Item = Refusal> + '_ {
+        let timing_is_sound: fn(&Policy) -> bool = match planted {
+            // Not a rule: a leak that tests plant.
+            Planted::RankGapAboveDeadTime => |policy| policy.timing.with_rank_gap_cut().in_range(),
+            _ => |policy| policy.timing.in_range(),
+        };
         let conditions: [Condition; 7] = [
             (Refusal::Lengths, Policy::lengths_are_sound),
             (Refusal::Rows, Policy::rows_are_sound),
@@ -138,7 +151,7 @@ impl Policy {
             (Refusal::NotTransitive, Policy::is_transitive),
             (Refusal::NoLeastClass, Policy::has_least),
             (Refusal::Turns, Policy::turns_are_sound),
-            (Refusal::Timing, |policy| policy.timing.in_range()),
+            (Refusal::Timing, timing_is_sound),
         ];
         let fails = |(_, holds): &Condition| !holds(self);
         conditions
@@ -201,7 +214,8 @@ impl Policy {
 impl Timing {
     /// 8: "a timing byte out of range". "Turn length 2 to 255, dead time 2 to 31
     /// and below the turn length, each gap 1 to the dead time, answer delay 2 to
-    /// the dead time, column delay 1 to the answer delay less 1."
+    /// the dead time, column delay 1 to the answer delay less 1." W-206: "the rank gap
+    /// (1 to the dead time)".
     pub fn in_range(&self) -> bool {
         let gap_in_range = |gap: &u8| (1..=self.dead_time).contains(gap);
         self.turn_length >= 2
@@ -209,23 +223,41 @@ impl Timing {
             && self.dead_time < self.turn_length
             && self.gaps.iter().flatten().all(gap_in_range)
             && self.bank_gaps.iter().all(gap_in_range)
+            && self.rank_gap.iter().all(gap_in_range)
             && (2..=self.dead_time).contains(&self.response_delay)
             && (1..self.response_delay).contains(&self.column_delay)
     }
 
     /// "turn length; dead time; gaps read-read, read-write, write-read,
     /// write-write (earlier kind first); same-bank gap after a read, after a
-    /// write; column delay; answer delay".
-    fn from_bytes(body: &[u8; TIMING_LENGTH]) -> Timing {
+    /// write; column delay; answer delay". W-206: "an eleventh byte, the rank gap". No other
+    /// length is a timing body's.
+    fn from_bytes(body: &[u8]) -> Option<Timing> {
+        let (ten, more) = body.split_first_chunk::<TIMING_LENGTH>()?;
         let [turn_length, dead_time, rr, rw, wr, ww, after_read, after_write, column, response] =
-            *body;
-        Timing {
+            *ten;
+        let rank_gap = match *more {
+            [] => None,
+            [rank_gap] => Some(rank_gap),
+            _ => return None,
+        };
+        Some(Timing {
             turn_length,
             dead_time,
             gaps: [[rr, rw], [wr, ww]],
             bank_gaps: [after_read, after_write],
             column_delay: column,
             response_delay: response,
+            rank_gap,
+        })
+    }
+
+    /// For [`Planted::RankGapAboveDeadTime`] only.
+    fn with_rank_gap_cut(&self) -> Timing {
+        let cut = |gap: u8| gap.min(self.dead_time);
+        Timing {
+            rank_gap: self.rank_gap.map(cut),
+            ..self.clone()
         }
     }
 }
@@ -268,16 +300,21 @@ fn caps_of_order(policy: &Policy) -> Vec<u8> {
 /// Reads a policy file, any bytes. "Order: files 1 to 8"; "a refused file gives
 /// the policy of no classes, all zeros".
 pub fn read(bytes: &[u8]) -> (Policy, Option<Refusal>) {
-    match read_or_refuse(bytes) {
+    read_planted(bytes, Planted::Nothing)
+}
+
+/// The same reader with a wrong rule in place. For tests.
+pub fn read_planted(bytes: &[u8], planted: Planted) -> (Policy, Option<Refusal>) {
+    match read_or_refuse(bytes, planted) {
         Ok(policy) => (policy, None),
         Err(refusal) => (Policy::of_no_classes(), Some(refusal)),
     }
 }
 
-fn read_or_refuse(bytes: &[u8]) -> Result<Policy, Refusal> {
+fn read_or_refuse(bytes: &[u8], planted: Planted) -> Result<Policy, Refusal> {
     let bodies = read_contents(bytes)?;
     let mut policy = read_bodies(&bodies)?;
-    if let Some(refusal) = policy.first_refusal() {
+    if let Some(refusal) = policy.first_refusal(planted) {
         return Err(refusal);
     }
     policy.covers = covers_of_order(&policy);
@@ -298,16 +335,16 @@ pub(crate) fn all_refusals(bytes: &[u8]) -> Vec<Refusal> {
         return [vec![Refusal::Contents], later].concat();
     };
     if let Ok(policy) = read_bodies(&bodies) {
-        return policy.refusals().collect();
+        return policy.refusals(Planted::Nothing).collect();
     }
     let epoch = bodies.turns.first();
-    let timing = <&[u8; TIMING_LENGTH]>::try_from(bodies.timing).map(Timing::from_bytes);
+    let timing = Timing::from_bytes(bodies.timing);
     let later = [
         epoch
             .is_some_and(|epoch| !(1..=LONGEST_EPOCH).contains(epoch))
             .then_some(Refusal::Turns),
         timing
-            .is_ok_and(|timing| !timing.in_range())
+            .is_some_and(|timing| !timing.in_range())
             .then_some(Refusal::Timing),
     ];
     [Some(Refusal::Lengths)]
@@ -366,7 +403,7 @@ fn read_bodies(bodies: &Bodies) -> Result<Policy, Refusal> {
     // An order body without even its n fits no n.
     let (&n, rows) = bodies.order.split_first().ok_or(Refusal::Lengths)?;
     let n = usize::from(n);
-    // "Length 1 + 2n." "Length 1 + n." "Timing, 10 bytes".
+    // "Length 1 + 2n." "Length 1 + n." "Timing, 10 bytes", or W-206's eleven.
     if !(1..=MOST_CLASSES).contains(&n) || rows.len() != 2 * n {
         return Err(Refusal::Lengths);
     }
@@ -374,7 +411,7 @@ fn read_bodies(bodies: &Bodies) -> Result<Policy, Refusal> {
     if minimums.len() != n {
         return Err(Refusal::Lengths);
     }
-    let timing: &[u8; TIMING_LENGTH] = bodies.timing.try_into().map_err(|_| Refusal::Lengths)?;
+    let timing = Timing::from_bytes(bodies.timing).ok_or(Refusal::Lengths)?;
     Ok(Policy {
         rows: rows
             .chunks_exact(2)
@@ -382,7 +419,7 @@ fn read_bodies(bodies: &Bodies) -> Result<Policy, Refusal> {
             .collect(),
         epoch,
         minimums: minimums.to_vec(),
-        timing: Timing::from_bytes(timing),
+        timing,
         covers: Vec::new(),
         caps: Vec::new(),
     })

@@ -1,11 +1,11 @@
-//! What W-202, W-203 and W-209 promise of every accepted policy and every list of calls from fresh: a
+//! What W-202, W-203, W-206 and W-209 promise of every accepted policy and every list of calls from fresh: a
 //! search for lists in which a promise is broken. The lists are those of the search for leaks
 //! ([`crate::pairs`]), and what happens in them is taken from the ticks' records and the states between
-//! them; W-203's promises are held against the lists and their logs alone ([`crate::reader`]).
+//! them; W-203's and W-206's promises are held against the lists and their logs alone ([`crate::reader`]).
 
 use std::collections::BTreeMap;
 
-use crate::pairs::pair;
+use crate::pairs::{pair, pair_planted};
 use crate::planted::Planted;
 use crate::policy::{Policy, LONGEST_EPOCH, MOST_CLASSES};
 use crate::reader::{Reader, SeenTick};
@@ -44,12 +44,20 @@ pub enum Promise {
     /// oldest while 15 others passed it goes next, and nothing passes it again." At each tick, of what the
     /// trace and the log have shown so far; "the rest of the queue closes up in its order".
     FirstThatCanGo,
-    /// Of two waiting requests of one class with the same bank and the same kind, the older is activated
+    /// Of two waiting requests of one class with the same rank, bank and kind, the older is activated
     /// first. It follows from W-203: their gaps are the same.
     OrderOfBankAndKind,
     /// While a request is its class's oldest, at most 15 others of that class are activated before it. It
     /// follows from W-203 too.
     AtMost15Pass,
+    /// W-206: "the rank gap ..., kept from the last activate of all where that was on another rank". Of two
+    /// activates of a log with none in between, on different ranks, the later comes at least the rank gap
+    /// after the other.
+    RankGap,
+    /// "from the last activate of the same bank (by that one's kind)", and W-206: "a bank is then known by
+    /// rank and bank". Of two activates of a log on the same rank and bank, the later comes at least the
+    /// same-bank gap after the other.
+    BankGap,
 }
 
 /// A broken promise.
@@ -62,7 +70,7 @@ pub struct Broken {
 }
 
 /// How often the promises came to bear, and in what way.
-const COUNTED: [&str; 47] = [
+const COUNTED: [&str; 52] = [
     "minimums owed",
     "minimums owed to classes that are not least",
     "minimums owed to a least class",
@@ -110,6 +118,11 @@ const COUNTED: [&str; 47] = [
     "oldest requests passed 15 times that go",
     "ticks at which being passed 15 times holds a younger one back",
     "ticks at which none of eight can go",
+    "activates after one on another rank",
+    "activates just the rank gap after one on another rank",
+    "activates of a bank again",
+    "activates just the same-bank gap after one of that bank",
+    "activates of one bank number on two ranks, closer than the same-bank gap",
 ];
 
 /// What a search found and how often the promises came to bear.
@@ -154,7 +167,7 @@ pub fn search_planted(count: u64, planted: Planted) -> Search {
         counts: COUNTED.iter().map(|&name| (name, 0)).collect(),
     };
     for seed in 0..count {
-        let pair = pair(seed);
+        let pair = pair_planted(seed, planted);
         // The promises are held against the same caps that turns left are set to.
         let policy = with_caps_by(planted, &pair.policy);
         for (side, list) in pair.lists.iter().enumerate() {
@@ -544,14 +557,54 @@ impl Check<'_> {
         }
     }
 
-    /// Holds W-203's promises against the list and its log.
+    /// Holds W-206's promises against an activate and those that the log has shown before it, each with its
+    /// cycle.
+    fn gaps(&mut self, shown: &[(u32, Request)], cycle: u32, request: Request) {
+        let timing = &self.policy.timing;
+        let after = |&(at, _): &(u32, Request)| cycle - at;
+        let what = |last| format!("{request:?} is activated at {cycle}, after {last:?}");
+        let last = shown.last().filter(|(_, last)| last.rank != request.rank);
+        if let Some((gap, last)) = timing.rank_gap.map(u32::from).zip(last) {
+            self.hold(Promise::RankGap, after(last) >= gap, || what(last));
+            let search = &mut *self.search;
+            search.met_if(true, "activates after one on another rank");
+            search.met_if(
+                after(last) == gap,
+                "activates just the rank gap after one on another rank",
+            );
+        }
+        // No gap is longer than the longest dead time.
+        let within = shown.iter().rev().take_while(|last| after(last) <= 31);
+        for last in within.filter(|(_, last)| last.bank == request.bank) {
+            let gap = u32::from(timing.bank_gaps[last.1.kind() as usize]);
+            if last.1.rank == request.rank {
+                self.hold(Promise::BankGap, after(last) >= gap, || what(last));
+                let just = after(last) == gap;
+                let search = &mut *self.search;
+                search.met_if(true, "activates of a bank again");
+                search.met_if(
+                    just,
+                    "activates just the same-bank gap after one of that bank",
+                );
+            } else {
+                self.search.met_if(
+                    after(last) < gap,
+                    "activates of one bank number on two ranks, closer than the same-bank gap",
+                );
+            }
+        }
+    }
+
+    /// Holds W-203's and W-206's promises against the list and its log.
     fn passes(&mut self, mut state: State, list: &[u32], planted: Planted) {
         let policy = self.policy;
         let mut reader = Reader::new(policy, state.cycle);
         // The turn in which the oldest of each class was last passed.
         let mut passed_in: Vec<Option<u32>> = vec![None; policy.class_count()];
+        let mut shown = Vec::new();
         for (place, &number) in list.iter().enumerate() {
-            let turn = turn_number(policy, state.cycle);
+            let cycle = state.cycle;
+            let turn = turn_number(policy, cycle);
             let line = run_line(policy, &mut state, number, planted);
             let Some(tick) = reader.read(number, &line) else {
                 continue;
@@ -559,13 +612,18 @@ impl Check<'_> {
             self.hold(Promise::FirstThatCanGo, tick.is_by_the_rule(), || {
                 format!("number {place} of the list: {tick:?}")
             });
+            if let Some((request, _)) = tick.activated {
+                self.gaps(&shown, cycle, request);
+                shown.push((cycle, request));
+            }
             let Some((request, Some(taken))) = tick.activated else {
                 self.count_held_back(&tick);
                 continue;
             };
             let mut older = tick.waiting.range(..taken);
             let mut younger = tick.waiting.range(taken + 1..);
-            let alike = |other: &Request| (other.bank, other.kind) == (request.bank, request.kind);
+            let of = |request: &Request| (request.rank, request.bank, request.kind);
+            let alike = |other: &Request| of(other) == of(&request);
             let in_order = !older.any(alike);
             self.hold(Promise::OrderOfBankAndKind, in_order, || {
                 format!("number {place} of the list: {tick:?}")

@@ -19,6 +19,14 @@ impl Random {
         bits ^ (bits >> 31)
     }
 
+    /// Another source, which goes by where this one stands and leaves it there. What is drawn
+    /// from it changes nothing that is drawn from this one.
+    pub(crate) fn aside(&self) -> Random {
+        Random {
+            state: self.state ^ 0xA51D_E000_A51D_E000,
+        }
+    }
+
     /// A number below a bound; 0 where the bound is 0.
     pub fn below(&mut self, bound: usize) -> usize {
         if bound == 0 {

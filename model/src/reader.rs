@@ -1,12 +1,12 @@
 //! W-203 as someone sees it who has a policy, a trace and its log, and no state: which
 //! request each activate took out of its class's queue, how often the oldest had been
-//! passed, and which request had to go.
+//! passed, and which request had to go, by the gaps of document 01 and of W-206.
 
 use std::collections::VecDeque;
 
 use crate::dead_time::offset_allows;
 use crate::policy::Policy;
-use crate::state::{Kind, Request, BANKS, MOST_PASSES};
+use crate::state::{Request, BANKS, MOST_PASSES, RANKS};
 use crate::tick::offset;
 use crate::trace::{Word, ELIDED};
 
@@ -22,9 +22,9 @@ pub struct Reader<'a> {
     waiting: Vec<VecDeque<Request>>,
     /// How many others of each class were activated while its oldest was the oldest.
     passes: Vec<u32>,
-    /// The last activate of all, and of each bank.
-    last: Option<(u32, Kind)>,
-    last_of_bank: [Option<(u32, Kind)>; BANKS],
+    /// The last activate of all, and of each bank of each rank.
+    last: Option<(u32, Request)>,
+    last_of_bank: [[Option<(u32, Request)>; BANKS]; RANKS],
     /// The cycles at which columns are to come.
     columns: VecDeque<u32>,
 }
@@ -68,7 +68,7 @@ impl Reader<'_> {
             waiting: vec![VecDeque::new(); n],
             passes: vec![0; n],
             last: None,
-            last_of_bank: [None; BANKS],
+            last_of_bank: [[None; BANKS]; RANKS],
             columns: VecDeque::new(),
         }
     }
@@ -131,14 +131,22 @@ impl Reader<'_> {
             return None;
         }
         let timing = &self.policy.timing;
-        let ready = |last: Option<(u32, Kind)>, gap: &dyn Fn(Kind) -> u8| {
-            last.is_none_or(|(cycle, kind)| self.cycle - cycle >= u32::from(gap(kind)))
+        let ready = |last: Option<(u32, Request)>, gap: &dyn Fn(Request) -> u8| {
+            last.is_none_or(|(cycle, last)| self.cycle - cycle >= u32::from(gap(last)))
         };
         self.waiting[self.owner].iter().position(|request| {
-            let by_kinds = |last: Kind| timing.gaps[last as usize][request.kind() as usize];
-            let by_bank = |last: Kind| timing.bank_gaps[last as usize];
+            let later = request.kind() as usize;
+            let by_kinds = |last: Request| timing.gaps[last.kind() as usize][later];
+            let by_bank = |last: Request| timing.bank_gaps[last.kind() as usize];
+            // A gap of 0 is met at once.
+            let by_rank = |last: Request| match timing.rank_gap {
+                Some(gap) if last.rank != request.rank => gap,
+                _ => 0,
+            };
+            let [rank, bank] = [request.rank, request.bank].map(usize::from);
             ready(self.last, &by_kinds)
-                && ready(self.last_of_bank[usize::from(request.bank)], &by_bank)
+                && ready(self.last, &by_rank)
+                && ready(self.last_of_bank[rank][bank], &by_bank)
         })
     }
 
@@ -154,9 +162,10 @@ impl Reader<'_> {
         } else {
             self.passes[class] + 1
         };
-        let last = Some((self.cycle, request.kind()));
+        let [rank, bank] = [request.rank, request.bank].map(usize::from);
+        let last = Some((self.cycle, request));
         self.last = last;
-        self.last_of_bank[usize::from(request.bank)] = last;
+        self.last_of_bank[rank][bank] = last;
         let delay = u32::from(self.policy.timing.column_delay);
         self.columns.push_back(self.cycle + delay);
         Some(place)

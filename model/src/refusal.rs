@@ -23,7 +23,7 @@ pub enum Refusal {
     Timing = 8,
     /// "class not below n"
     Class = 9,
-    /// "bank above 7 or kind above 1"
+    /// "bank above 7 or kind above 1"; W-206: "With ten bytes a rank other than 0 is refused with 10."
     BankOrKind = 10,
     /// "8 requests of that class wait"
     QueueFull = 11,

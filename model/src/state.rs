@@ -2,6 +2,7 @@
 
 use std::collections::VecDeque;
 
+use crate::planted::Planted;
 use crate::policy::Policy;
 use crate::refusal::Refusal;
 
@@ -11,6 +12,8 @@ pub const QUEUE_LIMIT: usize = 8;
 pub const MOST_PASSES: u8 = 15;
 /// 10: "bank above 7".
 pub const BANKS: usize = 8;
+/// W-206: "four ranks of eight banks".
+pub const RANKS: usize = 4;
 /// 12: "a tick after 16,777,215 ticks". A state's cycle is the number of ticks
 /// made, which is also the number of the next one.
 pub const LAST_CYCLE: u32 = 16_777_215;
@@ -22,6 +25,15 @@ pub enum Kind {
     Write = 1,
 }
 
+/// The number of ranks that requests may name, from rank 0 on. W-206: "With ten bytes a
+/// rank other than 0 is refused with 10."
+pub fn ranks(policy: &Policy) -> usize {
+    match policy.timing.rank_gap {
+        Some(_) => RANKS,
+        None => 1,
+    }
+}
+
 /// What an offer asks for. The numbers are as they came, so that 9 and 10 have
 /// something to refuse.
 #[derive(Clone, Copy, Debug, PartialEq, Eq)]
@@ -29,6 +41,7 @@ pub struct Request {
     pub class: u8,
     /// 0 read, 1 write.
     pub kind: u8,
+    pub rank: u8,
     pub bank: u8,
     pub tag: u16,
 }
@@ -43,11 +56,21 @@ impl Request {
         }
     }
 
-    /// 9, then 10: "class not below n", "bank above 7 or kind above 1".
+    /// The place of its bank among those of all ranks. W-206: "a bank is then known by rank
+    /// and bank". Asked of requests that 10 does not refuse.
+    pub fn bank_place(&self) -> usize {
+        BANKS * usize::from(self.rank) + usize::from(self.bank)
+    }
+
+    /// 9, then 10: "class not below n", "bank above 7 or kind above 1", and W-206's ranks. No
+    /// trace number has a rank above 3; a single offer may, and is refused too.
     pub fn refused_by(&self, policy: &Policy) -> Option<Refusal> {
         if usize::from(self.class) >= policy.class_count() {
             Some(Refusal::Class)
-        } else if usize::from(self.bank) >= BANKS || self.kind > 1 {
+        } else if usize::from(self.bank) >= BANKS
+            || self.kind > 1
+            || usize::from(self.rank) >= ranks(policy)
+        {
             Some(Refusal::BankOrKind)
         } else {
             None
@@ -64,11 +87,13 @@ pub struct InFlight {
     pub request: Request,
 }
 
-/// When the last activate was, and of which kind: all that gaps ask about it.
+/// When the last activate was, of which kind and on which rank: all that gaps ask about it.
+/// Of a bank's last one the rank is that of its place, and is not asked.
 #[derive(Clone, Copy, Debug, PartialEq, Eq)]
 pub struct LastActivate {
     pub cycle: u32,
     pub kind: Kind,
+    pub rank: u8,
 }
 
 /// What a state holds for one class.
@@ -104,8 +129,8 @@ pub struct State {
     pub responses: Vec<InFlight>,
     /// The last activate of all.
     pub last_activate: Option<LastActivate>,
-    /// The last activate of each bank.
-    pub last_of_bank: [Option<LastActivate>; BANKS],
+    /// The last activate of each bank, by [`Request::bank_place`].
+    pub last_of_bank: [Option<LastActivate>; RANKS * BANKS],
 }
 
 impl State {
@@ -121,7 +146,12 @@ impl State {
 ///
 /// W-203: nothing has passed anything yet, so the counts are 0.
 pub fn fresh(policy: &Policy) -> (State, Option<Refusal>) {
-    if !policy.in_range() {
+    fresh_planted(policy, Planted::Nothing)
+}
+
+/// The same with a wrong rule in place. For tests.
+pub fn fresh_planted(policy: &Policy, planted: Planted) -> (State, Option<Refusal>) {
+    if !policy.in_range_planted(planted) {
         return (State::of_zeros(), Some(Refusal::OutOfRange));
     }
     let class_at_its_cap = |&cap: &u8| ClassState {
@@ -139,7 +169,15 @@ pub fn fresh(policy: &Policy) -> (State, Option<Refusal>) {
 
 /// 13: "a state or policy handed in has numbers out of range".
 pub fn check_range(policy: &Policy, state: &State) -> Result<(), Refusal> {
-    if policy.in_range() && in_range(policy, state) {
+    check_range_planted(policy, state, Planted::Nothing)
+}
+
+pub(crate) fn check_range_planted(
+    policy: &Policy,
+    state: &State,
+    planted: Planted,
+) -> Result<(), Refusal> {
+    if policy.in_range_planted(planted) && in_range(policy, state) {
         Ok(())
     } else {
         Err(Refusal::OutOfRange)

@@ -5,8 +5,8 @@ use crate::planted::Planted;
 use crate::policy::Policy;
 use crate::refusal::Refusal;
 use crate::state::{
-    check_range, ClassState, InFlight, LastActivate, Request, State, LAST_CYCLE, MOST_PASSES,
-    QUEUE_LIMIT,
+    check_range_planted, ClassState, InFlight, LastActivate, Request, State, BANKS, LAST_CYCLE,
+    MOST_PASSES, QUEUE_LIMIT,
 };
 use crate::walk::{waits_with_turns_left, walk};
 
@@ -48,7 +48,7 @@ pub(crate) fn tick_planted(
     state: &mut State,
     planted: Planted,
 ) -> Result<TickRecord, Refusal> {
-    check_range(policy, state)?;
+    check_range_planted(policy, state, planted)?;
     tick_in_range(policy, state, planted)
 }
 
@@ -63,7 +63,7 @@ pub(crate) fn offer_planted(
     request: Request,
     planted: Planted,
 ) -> Result<(), Refusal> {
-    check_range(policy, state)?;
+    check_range_planted(policy, state, planted)?;
     offer_in_range(policy, state, request, planted)
 }
 
@@ -169,7 +169,7 @@ fn drive_wires(policy: &Policy, state: &mut State, planted: Planted) -> Wires {
     let Some(request) = place.and_then(|place| leave_queue(state, place, planted)) else {
         return Wires::Nothing;
     };
-    activate(policy, state, request);
+    activate(policy, state, request, planted);
     Wires::Activate(request)
 }
 
@@ -178,7 +178,7 @@ fn drive_wires(policy: &Policy, state: &mut State, planted: Planted) -> Wires {
 fn first_that_can_go(policy: &Policy, state: &State, planted: Planted) -> Option<usize> {
     let own = &state.classes[state.owner];
     let can_go = |request: &Request| {
-        gaps_met(policy, state, request, state.cycle)
+        gaps_met(policy, state, request, state.cycle, planted)
             // Not a rule: a leak that tests plant.
             && (planted != Planted::BankAgeInEightBits
                 || bank_gap_met_in_8_bits(policy, state, request))
@@ -188,17 +188,19 @@ fn first_that_can_go(policy: &Policy, state: &State, planted: Planted) -> Option
     // Not rules, but for the last: leaks and broken promises that tests plant.
     let found = match planted {
         Planted::YoungestFirst => can_go.next_back(),
-        Planted::LastKindFirst => {
-            let of_last_kind = |request: &Request| {
-                let last = state.last_activate;
-                last.is_some_and(|last| last.kind == request.kind())
+        Planted::LastKindFirst | Planted::LastRankFirst => {
+            let like_last = |request: &Request| {
+                state.last_activate.is_some_and(|last| match planted {
+                    Planted::LastKindFirst => last.kind == request.kind(),
+                    _ => last.rank == request.rank,
+                })
             };
-            let mut of_kind = can_go.clone().filter(|(_, request)| of_last_kind(request));
-            of_kind.next().or(can_go.next())
+            let mut alike = can_go.clone().filter(|(_, request)| like_last(request));
+            alike.next().or(can_go.next())
         }
         Planted::LastBankLast => {
             let of_last_bank = |request: &Request| {
-                let last = state.last_of_bank[usize::from(request.bank)];
+                let last = state.last_of_bank[request.bank_place()];
                 last.is_some() && last == state.last_activate
             };
             let mut of_others = can_go.clone().filter(|(_, request)| !of_last_bank(request));
@@ -258,7 +260,7 @@ fn passed_after(passed: u8, place: usize, planted: Planted) -> u8 {
 
 /// "An activate at t brings its column command at t plus the column delay and
 /// its answer at t plus the answer delay."
-fn activate(policy: &Policy, state: &mut State, request: Request) {
+fn activate(policy: &Policy, state: &mut State, request: Request, planted: Planted) {
     let cycle = state.cycle;
     state.columns.push(InFlight {
         due: cycle + u32::from(policy.timing.column_delay),
@@ -271,14 +273,31 @@ fn activate(policy: &Policy, state: &mut State, request: Request) {
     let last = Some(LastActivate {
         cycle,
         kind: request.kind(),
+        rank: request.rank,
     });
+    // Not a rule: a broken promise that tests plant.
+    if planted == Planted::BankForgottenForAnotherRank {
+        let same_number = state
+            .last_of_bank
+            .iter_mut()
+            .skip(usize::from(request.bank));
+        same_number.step_by(BANKS).for_each(|last| *last = None);
+    }
     state.last_activate = last;
-    state.last_of_bank[usize::from(request.bank)] = last;
+    state.last_of_bank[request.bank_place()] = last;
 }
 
 /// Whether "all gaps are met": W-203's request "whose gaps are met".
-pub(crate) fn gaps_met(policy: &Policy, state: &State, request: &Request, cycle: u32) -> bool {
-    gap_of_all_met(policy, state, request, cycle) && bank_gap_met(policy, state, request, cycle)
+pub(crate) fn gaps_met(
+    policy: &Policy,
+    state: &State,
+    request: &Request,
+    cycle: u32,
+    planted: Planted,
+) -> bool {
+    gap_of_all_met(policy, state, request, cycle)
+        && rank_gap_met(policy, state, request, cycle, planted)
+        && bank_gap_met(policy, state, request, cycle)
 }
 
 /// "Gaps run from the last activate of all (by the two kinds)": the earlier
@@ -295,9 +314,30 @@ pub(crate) fn gap_of_all_met(
     })
 }
 
-/// "and from the last activate of the same bank (by that one's kind)".
+/// W-206: "the rank gap (1 to the dead time), kept from the last activate of all where that
+/// was on another rank, besides the other gaps".
+pub(crate) fn rank_gap_met(
+    policy: &Policy,
+    state: &State,
+    request: &Request,
+    cycle: u32,
+    planted: Planted,
+) -> bool {
+    let Some((gap, last)) = policy.timing.rank_gap.zip(state.last_activate) else {
+        return true;
+    };
+    let kept = match planted {
+        // Not a rule: a broken promise that tests plant.
+        Planted::RankGapOnTheSameRank => last.rank == request.rank,
+        _ => last.rank != request.rank,
+    };
+    !kept || gap_met(last.cycle, gap, cycle)
+}
+
+/// "and from the last activate of the same bank (by that one's kind)". W-206: "a bank is
+/// then known by rank and bank".
 pub(crate) fn bank_gap_met(policy: &Policy, state: &State, request: &Request, cycle: u32) -> bool {
-    state.last_of_bank[usize::from(request.bank)].is_none_or(|last| {
+    state.last_of_bank[request.bank_place()].is_none_or(|last| {
         let gap = policy.timing.bank_gaps[last.kind as usize];
         gap_met(last.cycle, gap, cycle)
     })
@@ -352,7 +392,7 @@ fn waiting_of_all(state: &State) -> usize {
 
 /// For [`Planted::BankAgeInEightBits`] only.
 fn bank_gap_met_in_8_bits(policy: &Policy, state: &State, request: &Request) -> bool {
-    state.last_of_bank[usize::from(request.bank)].is_none_or(|last| {
+    state.last_of_bank[request.bank_place()].is_none_or(|last| {
         let age = (state.cycle - last.cycle) as u8;
         age >= policy.timing.bank_gaps[last.kind as usize]
     })

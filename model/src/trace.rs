@@ -3,7 +3,7 @@
 use crate::planted::Planted;
 use crate::policy::Policy;
 use crate::refusal::Refusal;
-use crate::state::{check_range, Request, State};
+use crate::state::{check_range_planted, Request, State};
 use crate::tick::{offer_in_range, tick_in_range, TickRecord, Turn, Wires};
 
 /// "Each trace number gives four log numbers: status, command, answer, turn".
@@ -15,10 +15,10 @@ pub const COLUMN_BIT: u32 = 1 << 30;
 /// "plus 256 if the dead time is dropped"
 pub const ELIDED: u32 = 256;
 
-/// "other bits 0": those that no field of an offer takes.
-pub(crate) const STRAY_BITS: [u32; 4] = [22, 23, 29, 30];
-const UNUSED_BITS: u32 =
-    1 << STRAY_BITS[0] | 1 << STRAY_BITS[1] | 1 << STRAY_BITS[2] | 1 << STRAY_BITS[3];
+/// "other bits 0": those that no field of an offer takes. W-206: "A trace number is no
+/// longer malformed for its bits 22 and 23."
+pub(crate) const STRAY_BITS: [u32; 2] = [29, 30];
+const UNUSED_BITS: u32 = 1 << STRAY_BITS[0] | 1 << STRAY_BITS[1];
 
 /// The three forms of a trace number.
 #[derive(Clone, Copy, Debug, PartialEq, Eq)]
@@ -31,9 +31,10 @@ pub enum Word {
 
 impl Word {
     /// "0 is a tick. An offer has bit 31 set, class in bits 24 to 28, kind in 20
-    /// and 21, bank in 16 to 19, tag in 0 to 15, other bits 0."
+    /// and 21, bank in 16 to 19, tag in 0 to 15, other bits 0." W-206: "Trace, command
+    /// and answer words carry the rank in bits 22 and 23".
     ///
-    /// Whether the class exists, and bank and kind are in range, is not a
+    /// Whether the class exists, and bank, kind and rank are in range, is not a
     /// matter of form: 9 and 10 ask that.
     pub fn of(number: u32) -> Word {
         if number == 0 {
@@ -42,6 +43,7 @@ impl Word {
             Word::Offer(Request {
                 class: class_bits(number),
                 kind: (number >> 20 & 0x3) as u8,
+                rank: (number >> 22 & 0x3) as u8,
                 bank: (number >> 16 & 0xF) as u8,
                 tag: (number & 0xFFFF) as u16,
             })
@@ -60,6 +62,7 @@ pub fn class_bits(number: u32) -> u8 {
 pub fn offer_word(request: &Request) -> u32 {
     OFFER_BIT
         | u32::from(request.class) << 24
+        | u32::from(request.rank) << 22
         | u32::from(request.kind) << 20
         | u32::from(request.bank) << 16
         | u32::from(request.tag)
@@ -117,7 +120,7 @@ pub fn run_planted(
     planted: Planted,
 ) -> Result<(), Refusal> {
     // 13 is asked once: a tick or offer on a state in range leaves one.
-    check_range(policy, state)?;
+    check_range_planted(policy, state, planted)?;
     // 15: "log shorter than 4 times the trace".
     if log.len() < LINE * trace.len() {
         // Not a rule: a leak that tests plant.

@@ -2,6 +2,8 @@
 //! and each stored line is held against the model's own answer for the case that the line names.
 
 mod common;
+#[path = "cases/ranks.rs"]
+mod ranks;
 
 use std::fs;
 use std::path::Path;
@@ -501,9 +503,10 @@ fn stored() -> String {
     let names = [
         "a queue that starts at place 8",
         "a waiting word that is no offer",
-        "a waiting word with bit 22",
+        "a waiting word with bit 29",
         "a column's word with bit 30",
         "a kind of a last activate that was not",
+        "a rank of a last activate that was not",
         "a mark of a number that is no class",
         "turns left of a number that is no class",
         "a queue of a number that is no class",
@@ -615,13 +618,18 @@ fn listed(name: &str, cycle: u32, list: &[u32]) -> String {
         cycle,
         ..fresh(&policy)
     };
+    listed_under(name, &policy, &state, list)
+}
+
+/// A run from a state, and its log by lines.
+fn listed_under(name: &str, policy: &Policy, state: &State, list: &[u32]) -> String {
     let mut log = vec![MARKER; LINE * list.len()];
-    let line = ran(&policy, &state, list, &mut log);
+    let line = ran(policy, state, list, &mut log);
     format!("{name}: {line}\n") + &log_lines(name, &log)
 }
 
-/// Row 14: words of neither form beside good ones. Bit 31 clear, and other bits; bits 29, 30, 22 and
-/// 23 of an offer.
+/// Row 14: words of neither form beside good ones. Bit 31 clear, and other bits; bits 29 and 30 of an
+/// offer. W-206: bits 22 and 23 are its rank, which with ten timing bytes gets 10.
 const MALFORMED: [u32; 18] = [
     0x8001_0007,
     1,
@@ -926,10 +934,14 @@ fn nothing_kept() -> String {
 
 /// What each class of the diamond may see of a log, by lines.
 fn seen(name: &str, list: &[u32], log: &[u32]) -> String {
-    let policy = quick_diamond();
+    seen_under(name, &quick_diamond(), list, log)
+}
+
+/// What each class of a policy may see of a log, by lines.
+fn seen_under(name: &str, policy: &Policy, list: &[u32], log: &[u32]) -> String {
     let classes = (0..policy.class_count()).map(|class| {
         let name = format!("{name} seen by class {class}");
-        let (answer, out) = drawn(&policy, class, list, log, log.len());
+        let (answer, out) = drawn(policy, class, list, log, log.len());
         format!("{name}: {answer}\n") + &log_lines(&name, &out)
     });
     classes.collect()
@@ -1043,10 +1055,10 @@ fn compare(program: &str, answers: &str) -> usize {
 fn the_proved_program_answers_as_the_model_does() {
     let policies = compare(
         "cases_policies",
-        &(files() + &extracts() + &stored_policies() + &masks() + &chains()),
+        &(files() + &extracts() + &stored_policies() + &masks() + &chains() + &ranks::policies()),
     );
-    let calls = compare("cases_calls", &(calls() + &runs()));
-    assert_eq!((policies, calls), (857, 860));
+    let calls = compare("cases_calls", &(calls() + &runs() + &ranks::calls()));
+    assert_eq!((policies, calls), (1101, 1175));
 }
 
 #[test]

@@ -23,6 +23,7 @@ fn read(bank: u8, tag: u16) -> u32 {
     offer_word(&Request {
         class: 0,
         kind: 0,
+        rank: 0,
         bank,
         tag,
     })

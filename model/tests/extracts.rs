@@ -240,7 +240,7 @@ fn arbitrary_logs() {
             let seen = |other: u32| other < 4 && flows(other, class);
             let mut expected = Vec::new();
             for (&number, line) in trace.iter().zip(log.chunks(4)) {
-                let is_offer = number >> 31 == 1 && number & 0x60C0_0000 == 0;
+                let is_offer = number >> 31 == 1 && number & 0x6000_0000 == 0;
                 if is_offer && seen(number >> 24 & 31) {
                     expected.extend_from_slice(line);
                 } else if number == 0 {

@@ -26,6 +26,7 @@ fn ask(class: u8, kind: u8, bank: u8, tag: u16) -> Request {
     Request {
         class,
         kind,
+        rank: 0,
         bank,
         tag,
     }

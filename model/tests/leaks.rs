@@ -204,6 +204,32 @@ fn finds_two_masks_of_classes_that_are_swapped() {
     finds(Planted::MasksOf9And10Swapped);
 }
 
+/// The pairs of this search have rank gaps of two more than the dead time, the shortest that can show.
+#[test]
+fn finds_a_rank_gap_above_the_dead_time() {
+    let check = finds(Planted::RankGapAboveDeadTime);
+    assert_eq!(check, Some(Check::Command));
+}
+
+#[test]
+fn finds_a_scan_that_prefers_the_rank_of_the_last_activate() {
+    let check = finds(Planted::LastRankFirst);
+    assert_eq!(check, Some(Check::Command));
+}
+
+/// These are wrong rules, which `promises.rs` finds, and yet no gap of theirs is longer than the dead
+/// time, so no class learns from them what it may not.
+#[test]
+fn wrong_gaps_of_ranks_and_banks_do_not_leak_while_the_dead_time_covers_them() {
+    for planted in [
+        Planted::RankGapOnTheSameRank,
+        Planted::BankForgottenForAnotherRank,
+    ] {
+        let search = search_planted(PAIRS_ENOUGH, planted);
+        assert_eq!(search.leak, None, "{planted:?}");
+    }
+}
+
 /// Each change in what is compared, and the one comparison that can tell it.
 const ALTERED: [(Altered, Option<Check>); 20] = [
     (Altered::Nothing, None),

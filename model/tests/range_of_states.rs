@@ -5,7 +5,7 @@ mod common;
 use common::*;
 use vigambul_model::policy::Policy;
 use vigambul_model::refusal::Refusal;
-use vigambul_model::state::{InFlight, Kind, LastActivate, State};
+use vigambul_model::state::{InFlight, Kind, State};
 use vigambul_model::tick::{offer, tick};
 use vigambul_model::trace::run;
 
@@ -47,10 +47,7 @@ fn every_clause_refuses_a_number_just_out_of_range() {
             state.cycle = 16_777_216;
         }),
         ("a last activate at the highest cycle", |state| {
-            state.last_activate = Some(LastActivate {
-                cycle: u32::MAX,
-                kind: Kind::Write,
-            })
+            state.last_activate = last(u32::MAX, Kind::Write)
         }),
         ("an answer due at the end of 32 bits", |state| {
             state.responses[1].due = u32::MAX
@@ -99,16 +96,10 @@ fn every_clause_takes_a_number_just_inside_its_range() {
             state.classes[2].passed = 15;
         }),
         ("a last activate one before the cycle", |state| {
-            state.last_activate = Some(LastActivate {
-                cycle: 2,
-                kind: Kind::Write,
-            })
+            state.last_activate = last(2, Kind::Write)
         }),
         ("a last activate of a bank one before the cycle", |state| {
-            state.last_of_bank[7] = Some(LastActivate {
-                cycle: 2,
-                kind: Kind::Write,
-            })
+            state.last_of_bank[7] = last(2, Kind::Write)
         }),
         // No clause asks that the last activate of all is the latest of a bank.
         ("no last activate of all", |state| {

@@ -175,16 +175,18 @@ fn refused_lines_change_nothing_in_the_state() {
 fn the_forms_of_a_trace_number() {
     assert_eq!(Word::of(0), Word::Tick);
     assert_eq!(
-        Word::of(0x9F3F_FFFF),
+        Word::of(0x9FFF_FFFF),
         Word::Offer(Request {
             class: 31,
             kind: 3,
+            rank: 3,
             bank: 15,
             tag: 0xFFFF
         })
     );
     assert_eq!(Word::of(0x8000_0000), Word::Offer(read_request(0, 0)));
-    for bit in [22, 23, 29, 30] {
+    // W-206: "A trace number is no longer malformed for its bits 22 and 23."
+    for bit in [29, 30] {
         assert_eq!(
             Word::of(0x8000_0000 | 1 << bit),
             Word::Malformed,
@@ -203,11 +205,12 @@ fn an_offers_word_names_its_fields() {
     let request = Request {
         class: 0x12,
         kind: 1,
+        rank: 2,
         bank: 5,
         tag: 0xABCD,
     };
-    assert_eq!(offer_word(&request), 0x9215_ABCD);
-    assert_eq!(Word::of(0x9215_ABCD), Word::Offer(request));
+    assert_eq!(offer_word(&request), 0x9295_ABCD);
+    assert_eq!(Word::of(0x9295_ABCD), Word::Offer(request));
 }
 
 #[test]

@@ -7,7 +7,7 @@ use vigambul_model::generate;
 use vigambul_model::policy::{self, Policy};
 use vigambul_model::program::read_trace;
 use vigambul_model::refusal::Refusal;
-use vigambul_model::state::{check_range, InFlight, Kind, LastActivate, State};
+use vigambul_model::state::{check_range, InFlight, Kind, State};
 use vigambul_model::tick::{offer, tick};
 use vigambul_model::trace::{run, tick_line, Word};
 
@@ -66,10 +66,7 @@ fn near_the_end(policy: &Policy) -> State {
     let mut state = fresh(policy);
     state.cycle = 16_777_213;
     state.owner = 1;
-    state.last_activate = Some(LastActivate {
-        cycle: 16_777_212,
-        kind: Kind::Read,
-    });
+    state.last_activate = last(16_777_212, Kind::Read);
     state.last_of_bank[0] = state.last_activate;
     state.columns = vec![InFlight {
         due: 16_777_213,

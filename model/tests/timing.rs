@@ -14,6 +14,7 @@ fn word(kind: u8, bank: u8, tag: u16) -> u32 {
     offer_word(&Request {
         class: 0,
         kind,
+        rank: 0,
         bank,
         tag,
     })

@@ -1,8 +1,9 @@
 """Policies and runs for tests that count: five classes over 40 turns, and generated policies with traffic of every kind."""
 
+from vigambul.blind_search import STRAY
 from vigambul.draws import Draws
 from vigambul.folders import folder_at, run_folder
-from vigambul.formats import BANKS, COLUMN, Request, bytes_of
+from vigambul.formats import BANKS, COLUMN, RANKS, Request, bytes_of
 from vigambul.policies import Policy, class_mask
 
 FIVE_NAMES = ("base", "alice", "bob", "audit", "guest")
@@ -30,7 +31,7 @@ def an_order(draws, classes):
 
 
 def a_policy(draws):
-    """A policy that is taken: any number of classes, any timing, epochs of up to 12 turns."""
+    """A policy that is taken: any number of classes, any timing, epochs of up to 12 turns; half of them have four ranks."""
     classes, epoch = 1 + draws.below(16), 1 + draws.below(12)
     minimums = [0] * classes
     for _ in range(draws.below(epoch + 1)):
@@ -39,19 +40,27 @@ def a_policy(draws):
     turn = dead + 1 + draws.below(12)
     answer = 2 + draws.below(dead - 1)
     gaps = [1 + draws.below(dead) for _ in range(6)]
-    return Policy(an_order(draws, classes), epoch, minimums, [turn, dead, *gaps, 1 + draws.below(answer - 1), answer])
+    rank_gap = [1 + draws.below(dead)] if draws.chance(0.5) else []
+    return Policy(an_order(draws, classes), epoch, minimums, [turn, dead, *gaps, 1 + draws.below(answer - 1), answer, *rank_gap])
+
+
+def refused_words(policy):
+    """Words that are refused: malformed ones, and offers of a class, a kind, a bank or a rank that there is none of."""
+    word = Request(0, 0, 0, 0).word
+    requests = [Request(policy.classes, 0, 0, 0), Request(0, 2, 0, 0), Request(0, 0, 9, 0), *(Request(0, 0, 0, 0, rank) for rank in range(policy.ranks, RANKS))]
+    return [1, word | COLUMN, word | STRAY, *(request.word for request in requests)]
 
 
 def a_trace(draws, policy, cycles):
-    """Ticks, offers of every class, more than there is room for, and words that are refused; offers after the last tick too."""
-    words = []
+    """Ticks, offers of every class on every rank, more than there is room for, and words that are refused; offers after the last tick too."""
+    words, refused = [], refused_words(policy)
     shares = [draws.one_of((0, 0.02, 0.1, 0.5)) for _ in range(policy.classes)]
     for _ in range(cycles + 1):
         for owner, share in enumerate(shares):
             while draws.chance(share):
-                words.append(Request(owner, draws.below(2), draws.below(BANKS), draws.below(4)).word)
+                words.append(Request(owner, draws.below(2), draws.below(BANKS), draws.below(4), draws.below(policy.ranks)).word)
         if draws.chance(0.05):
-            words.append(draws.one_of((1, Request(0, 0, 0, 0).word | COLUMN, Request(policy.classes, 0, 0, 0).word, Request(0, 2, 0, 0).word, Request(0, 0, 9, 0).word)))
+            words.append(draws.one_of(refused))
         words.append(0)
     return words[:-1]
 

@@ -5,9 +5,9 @@ from unittest import mock
 
 from vigambul import build
 from vigambul.blind import first_difference, premise
-from vigambul.blind_search import HABITS, a_stray, filling, pair_of, searched
+from vigambul.blind_search import HABITS, STRAY, a_stray, filling, pair_of, searched
 from vigambul.draws import Draws
-from vigambul.formats import bytes_of, is_offer, is_tick, request_of
+from vigambul.formats import COLUMN, OFFER, bytes_of, is_offer, is_tick, request_of
 from vigambul.policies import Names, Policy, policy_of
 from vigambul.purge import place_of_seen, purge
 
@@ -96,6 +96,13 @@ class Folders(Case):
         one, other = self.pair([0, 0x81010001, 0, 0], [0xC0000000, 0, 0x9F000000, 0x81010001, 0, 0x82080000, 0, 7])
         self.assertIn("equal: 16 numbers each", self.succeeds("blind", one, other, "--class", "red"))
 
+    def test_a_rank_that_there_is_none_of_is_no_malformed_word(self):
+        """Under a policy of one rank an offer of another is refused, and struck out by its class alone: red sees its own, and does not see blue's."""
+        one, other = self.pair([0, 0x81410001, 0], [0x82C10001, 0, 0xA1410001, 0x81410001, 0])
+        self.assertIn("equal: 12 numbers each", self.succeeds("blind", one, other, "--class", "red"))
+        (other / "trace.bin").write_bytes(bytes_of([0, 0]))
+        self.assertIn("one/trace.bin: trace number 2: 81410001, offer red read rank 1 bank 1 tag 1", self.fails(2, "blind", one, other, "--class", "red"))
+
     def test_other_policy(self):
         err = self.fails(2, "blind", IDLE, EXAMPLES / "diamond", "--class", "base")
         self.assertEqual(self.said(err), "vig: examples/two-tenants/policy.bin and examples/diamond/policy.bin differ: two traces of one policy are compared\n")
@@ -140,10 +147,10 @@ class Parts(Case):
     def test_purge_is_as_long_as_the_extract(self):
         """The extract has four numbers for each trace number that is left, by whatever trace."""
         library, draws = build.library(), Draws("lengths")
-        for name in ("diamond", "two-tenants", "chain-of-three"):
+        for name in ("diamond", "two-tenants", "chain-of-three", "two-ranks"):
             data = (EXAMPLES / name / "policy.bin").read_bytes()
             policy = policy_of(data)
-            trace = [0 if draws.chance(0.4) else draws.below(1 << 32) if draws.chance(0.3) else 0x80000000 | draws.below(6) << 24 for _ in range(400)]
+            trace = [0 if draws.chance(0.4) else draws.below(1 << 32) if draws.chance(0.3) else 0x80000000 | draws.below(6 << 2) << 22 for _ in range(400)]
             _, log = library.run(data, trace)
             for seen_by in range(policy.classes):
                 status, out = library.extract(data, seen_by, trace, log)
@@ -156,7 +163,7 @@ class Search(Case):
 
     def test_pairs_agree_and_pass_epochs(self):
         """The premise holds of each pair; they pass three epochs at least."""
-        for name in ("diamond", "two-tenants", "single-class"):
+        for name in ("diamond", "two-tenants", "single-class", "two-ranks"):
             policy = policy_of((EXAMPLES / name / "policy.bin").read_bytes())
             for number in range(60):
                 seen_by = number % policy.classes
@@ -180,6 +187,21 @@ class Search(Case):
             self.assertTrue(all(cycle >= 0 for cycle in cycles))
         strays = [a_stray(Draws("stray", number), policy) for number in range(200)]
         self.assertFalse([word for word in strays if is_tick(word) or is_offer(word) and request_of(word).class_ < policy.classes])
+        for bits in (0, OFFER | COLUMN, OFFER | STRAY, OFFER):
+            self.assertIn(bits, {word & (OFFER | COLUMN | STRAY) for word in strays})
+
+    def test_ranks_are_drawn_where_there_are_four(self):
+        """And none are refused for it; where there is one rank, all is on it."""
+        for name, ranks, statuses in (("two-ranks", {0, 1, 2, 3}, {0, 9, 10, 11, 14}), ("two-tenants", {0}, {0, 9, 10, 11, 14})):
+            data, met, drawn, refused = (EXAMPLES / name / "policy.bin").read_bytes(), set(), set(), 0
+            for number in range(40):
+                for trace in pair_of(Draws("ranks", number), policy_of(data), 0):
+                    _, log = build.library().run(data, trace)
+                    met |= set(log[::4])
+                    requests = [(request_of(word), status) for word, status in zip(trace, log[::4]) if is_offer(word)]
+                    drawn |= {request.rank for request, _ in requests}
+                    refused += sum(status == 10 and request.bank < 8 and request.kind < 2 for request, status in requests)
+            self.assertEqual((drawn, met, refused), (ranks, statuses, 0))
 
     def test_fillings_are_hidden(self):
         policy = policy_of((IDLE / "policy.bin").read_bytes())
@@ -188,7 +210,7 @@ class Search(Case):
             self.assertEqual(list(purge(words, policy, 1)), [])
 
     def test_nothing_is_learnt(self):
-        for name in ("diamond", "two-tenants", "chain-of-three", "single-class"):
+        for name in ("diamond", "two-tenants", "chain-of-three", "single-class", "two-ranks"):
             status, out, err = self.search("60", EXAMPLES / name / "policy.bin")
             self.assertEqual((status, err), (0, ""))
             self.stored("blind/search-%s.txt" % name, out)

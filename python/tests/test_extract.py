@@ -2,12 +2,14 @@
 
 import shutil
 
+from vigambul.formats import REFUSALS, bytes_of
+
 from .support import EXAMPLES, Case
 
 
 class Extract(Case):
     def test_stored(self):
-        for folder, name in (("two-tenants-busy", "red"), ("two-tenants-busy", "blue"), ("refused-calls", "low"), ("diamond", "left")):
+        for folder, name in (("two-tenants-busy", "red"), ("two-tenants-busy", "blue"), ("refused-calls", "low"), ("diamond", "left"), ("two-ranks", "host")):
             with self.subTest(folder, name=name):
                 self.stored("extract/%s-%s.txt" % (folder, name), self.succeeds("extract", EXAMPLES / folder, "--class", name))
                 self.stored("extract/%s-%s.words.txt" % (folder, name), self.succeeds("extract", EXAMPLES / folder, "--class", name, "--words"))
@@ -35,6 +37,18 @@ class Extract(Case):
             words = self.succeeds("extract", EXAMPLES / "busy-bank", "--class", name, "--words")
             self.assertEqual(words.count(", passing "), passing)
         self.assertEqual(words, self.succeeds("run", EXAMPLES / "busy-bank", "--words"))
+
+    def test_offers_of_a_rank_that_there_is_none_of(self):
+        """Under a policy of one rank they are offers all the same, refused with 10: a class sees its own and those of classes that may flow to it, and no others. Malformed words
+        are gone."""
+        shutil.copy(EXAMPLES / "two-tenants" / "policy.bin", self.room)
+        words = [0x80400001, 0x81800002, 0x82C00003, 0x83400004, 0xA0400005, 0xC0400006, 0]
+        (self.room / "trace.bin").write_bytes(bytes_of(words))
+        for seen_by, shown in (("0", [0]), ("1", [0, 1]), ("2", [0, 2])):
+            lines = self.succeeds("extract", self.room, "--class", seen_by, "--words").splitlines()
+            told = ["cycle 0: offer class %d read rank %d bank 0 tag %d: refused 10: %s" % (number, number + 1, number + 1, REFUSALS[10].when) for number in shown]
+            self.assertEqual(lines[:-1], told)
+            self.assertTrue(lines[-1].startswith("cycle 0: turn of "), lines[-1])
 
     def test_greatest_class_sees_the_log(self):
         self.assertEqual(self.succeeds("extract", EXAMPLES / "diamond", "--class", "top"), (EXAMPLES / "diamond" / "expected.txt").read_text())

@@ -46,15 +46,17 @@ class Told(Replay):
         self.wires.append((self.cycle, command, response, self.in_dead_time))
 
 
-def gaps_met(policy, request, cycle, last, of_bank):
-    """Whether a request's gaps are met in a cycle, by kind and cycle of the last activate of all, and of those of each bank."""
-    met = [0]
+def unmet(policy, request, cycle, last, of_bank):
+    """The gaps of a request that are not met in a cycle: by request and cycle of the last activate of all, and of those of each bank, which is known by rank and bank."""
+    gaps = {}
     if last:
-        met.append(last[1] + policy.timing[2 + 2 * last[0] + request.kind])
-    if request.bank in of_bank:
-        kind, activated = of_bank[request.bank]
-        met.append(activated + policy.timing[6 + kind])
-    return max(met) <= cycle
+        gaps["kinds"] = last[1] + policy.timing[2 + 2 * last[0].kind + request.kind]
+        if last[0].rank != request.rank:
+            gaps["rank"] = last[1] + policy.rank_gap
+    if (request.rank, request.bank) in of_bank:
+        earlier, activated = of_bank[request.rank, request.bank]
+        gaps["bank"] = activated + policy.timing[6 + earlier.kind]
+    return {name for name, met in gaps.items() if met > cycle}
 
 
 class HistoryCase(Case):
@@ -114,6 +116,25 @@ class Examples(HistoryCase):
         )
         answers = {request_of(word).tag: answered for (word, _), ((_, answered),) in told.lives.items() if request_of(word).class_ == 1}
         self.assertEqual(answers, {1: 18, 2: 14, 3: 24, 4: 16, 5: 29, 6: 26})
+
+    def test_ranks(self):
+        """The table of the two ranks: which class and tag is activated in which cycle, on which rank and bank, and how many it passes; and those that wait for the rank gap alone in the
+        two cycles before."""
+        ran, told = self.told("two-ranks")
+        activates = [(cycle, request_of(word), older) for cycle, word, older, *_ in told.activates]
+        self.assertEqual(
+            [(cycle, request.class_, request.tag, request.rank, request.bank, older) for cycle, request, older in activates],
+            [
+                *((0, 0, 1, 0, 3, 0), (4, 0, 2, 1, 3, 0), (6, 0, 3, 1, 4, 0), (10, 0, 4, 0, 3, 0)),
+                *((14, 1, 1, 1, 0, 0), (16, 1, 2, 1, 1, 0)),
+                *((24, 0, 5, 0, 0, 0), (26, 0, 7, 0, 2, 1), (30, 0, 6, 1, 1, 0)),
+            ],
+        )
+        of_bank, last = {}, None
+        for cycle, request, _ in activates:
+            if cycle in (4, 10, 14, 30):
+                self.assertEqual([unmet(ran.policy, request, earlier, last, of_bank) for earlier in (cycle - 2, cycle - 1, cycle)], [{"rank"}, {"rank"}, set()])
+            last = of_bank[request.rank, request.bank] = request, cycle
 
     def test_refused_calls(self):
         """The table of refused lines, and the cycles that they stand before."""
@@ -220,8 +241,9 @@ class Generated(HistoryCase):
         self.assertEqual(whole.cycle, 200)
 
     def test_who_is_passed(self):
-        """A request that is passed has a gap that is not met, at most 15 pass one oldest, and of the requests of one class with the same bank and kind the older goes first."""
-        passed = most = 0
+        """A request that is passed has a gap that is not met, now and then the rank gap alone; at most 15 pass one oldest; and of the requests of one class with the same rank, bank and
+        kind the older goes first."""
+        passed = most = by_rank = 0
         for ran in generated(self.library, self.room, 40, 400):
             last, of_bank, waiting = None, {}, [[] for _ in range(ran.policy.classes)]
             for call, older in passing(calls_of(ran.trace, ran.log)):
@@ -231,14 +253,17 @@ class Generated(HistoryCase):
                     request = request_of(call.command)
                     queue = waiting[request.class_]
                     for word in queue[:older]:
-                        self.assertFalse(gaps_met(ran.policy, request_of(word), call.cycle, last, of_bank))
-                        self.assertNotEqual(request_of(word)[:3], request[:3])
+                        waits_for = unmet(ran.policy, request_of(word), call.cycle, last, of_bank)
+                        self.assertTrue(waits_for)
+                        self.assertNotEqual(request_of(word)._replace(tag=0), request._replace(tag=0))
+                        by_rank += waits_for == {"rank"}
                     self.assertEqual(queue.pop(older), call.command)
-                    self.assertTrue(gaps_met(ran.policy, request, call.cycle, last, of_bank))
-                    last = of_bank[request.bank] = request.kind, call.cycle
+                    self.assertFalse(unmet(ran.policy, request, call.cycle, last, of_bank))
+                    last = of_bank[request.rank, request.bank] = request, call.cycle
                     passed += older > 0
             most = max([most, *(number for _, _, _, number, _ in Told(ran.policy).run(ran).activates)])
         self.assertGreater(passed, 200)
+        self.assertGreater(by_rank, 50)
         self.assertGreater(most, 4)
         self.assertLessEqual(most, MOST_PASSED)
 

@@ -6,7 +6,7 @@ from collections import Counter
 
 from vigambul import build
 from vigambul.folders import folder_at, run_folder
-from vigambul.formats import is_column, is_elided, is_offer, owner_of, request_of
+from vigambul.formats import Request, is_column, is_elided, is_offer, owner_of, request_of
 from vigambul.history import calls_of, passing
 from vigambul.picture import BAR_Y, HOME_Y, MARKS, ROW, ROWS_Y, rows_of
 from vigambul.policies import Policy
@@ -126,7 +126,8 @@ class PictureCase(Case):
 
 class Counted(PictureCase):
     def test_examples(self):
-        lasts = {"busy-bank": 33, "chain-of-three": 39, "diamond": 44, "printed-log": 2, "refused-calls": 11, "single-class": 43, "two-tenants": 41, "two-tenants-busy": 41}
+        lasts = {"busy-bank": 33, "chain-of-three": 39, "diamond": 44, "printed-log": 2, "refused-calls": 11, "single-class": 43, "two-ranks": 35}
+        lasts.update({"two-tenants": 41, "two-tenants-busy": 41})
         for name, last in lasts.items():
             with self.subTest(name):
                 picture = self.check(EXAMPLES / name, 0, last)
@@ -144,6 +145,29 @@ class Counted(PictureCase):
         self.assertEqual([text for text in picture.texts if text.startswith("epoch ") and text[6:].isdecimal()], ["epoch 0", "epoch 1", "epoch 2"])
         self.assertEqual(len(picture.elements("line", "epoch")), 3 + 1)
         self.assertEqual([element.text for element in picture.elements("text", "name")], ["blue", "red", "base"])
+
+    def test_ranks_by_hand(self):
+        """The two ranks: beside each activate its rank, row by row, those that pass last, behind the numbers of offers; the words name it, and so do the line below the title and the
+        legend. Where there is one rank nothing is said."""
+        picture = self.picture(EXAMPLES / "two-ranks")
+        self.assertEqual([element.text for element in picture.elements("text", "count")], ["2", "4", "3", "1", "1", "0", "1", "1", "0", "0", "1", "0"])
+        self.assertEqual(picture.words("passing"), ["cycle 26: activate host read rank 0 bank 2 tag 7, passing 1 older"])
+        self.assertIn("cycle 4: activate host read rank 1 bank 3 tag 2", picture.words("activate"))
+        self.assertIn("activate, with its rank", picture.texts)
+        self.assertTrue(any(text.endswith(" 4 ranks, rank gap 4 cycles.") for text in picture.texts))
+        self.assertFalse(any("rank" in text for text in self.picture(EXAMPLES / "diamond").texts))
+
+    def test_ranks_keep_their_distance(self):
+        """A rank is left out where the next activate of the row, of either kind, leaves no room for it."""
+        policy = Policy([1], 1, [0], [60, 31, 1, 1, 1, 1, 3, 3, 20, 31, 2])
+        trace = [Request(0, 0, bank, 0, rank).word for rank, bank in ((0, 0), (0, 0), (0, 1), (1, 0), (0, 2))] + [0] * 120
+        picture = self.picture(write(self.room / "close", policy, trace))
+        marks = sorted(picture.place(mark, kind)[0] for kind in ("activate", "passing") for mark in picture.marks(kind))
+        ranks = sorted(float(element.get("x")) for element in picture.elements("text", "count") if element.text in ("0", "1"))
+        self.assertEqual((len(marks), len(picture.marks("passing"))), (5, 2))
+        self.assertTrue(0 < len(ranks) < 5)
+        for x in ranks:
+            self.assertFalse([mark for mark in marks if x < mark < x + 8])
 
     def test_ranges(self):
         for first, last in ((0, 0), (3, 3), (7, 29), (11, 36), (40, 41)):

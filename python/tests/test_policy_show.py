@@ -40,20 +40,29 @@ class Damaged(Case):
             shown(layout, "file")
         return answer
 
-    def test_every_damage_of_one_byte(self):
-        path = EXAMPLES / "diamond" / "policy.bin"
+    def damaged(self, name):
+        """Every damage of one byte of an example's policy; the numbers that are met."""
+        path = EXAMPLES / name / "policy.bin"
         data, names = path.read_bytes(), names_beside(path)
         for offset in range(len(data)):
             for value in range(256):
                 self.explained(data[:offset] + bytes([value]) + data[offset + 1 :], names, whole=value in (0, 1, 17))
-        self.assertEqual(self.met, set(range(9)))
+        return self.met
+
+    def test_every_damage_of_one_byte(self):
+        self.assertEqual(self.damaged("diamond"), set(range(9)))
+
+    def test_every_damage_of_one_byte_with_a_rank_gap(self):
+        """With two classes there is no order that lacks a flow: no 5."""
+        self.assertEqual(self.damaged("two-ranks"), set(range(9)) - {5})
 
     def test_every_cut_and_what_is_behind(self):
-        data = (EXAMPLES / "two-tenants" / "policy.bin").read_bytes()
-        for length in range(len(data)):
-            self.explained(data[:length], whole=True)
-        self.explained(data + b"behind", whole=True)
-        self.explained(data * 2000, whole=False)
+        for name in ("two-tenants", "two-ranks"):
+            data = (EXAMPLES / name / "policy.bin").read_bytes()
+            for length in range(len(data)):
+                self.explained(data[:length], whole=True)
+            self.explained(data + b"behind", whole=True)
+            self.explained(data * 2000, whole=False)
         self.assertEqual(self.met, {1})
 
     def test_files_of_another_kind(self):
@@ -62,7 +71,7 @@ class Damaged(Case):
             self.explained(random_numbers.randbytes(random_numbers.choice((0, 1, 16, 17, 37, 76, 300))), whole=True)
 
     def test_sound_contents_with_bodies_that_do_not_fit(self):
-        for order, turns, timing in ((0, 3, 10), (1, 1, 10), (8, 4, 10), (7, 0, 0), (500, 300, 90), (33, 17, 11)):
+        for order, turns, timing in ((0, 3, 10), (1, 1, 10), (8, 4, 10), (7, 0, 0), (7, 4, 9), (7, 4, 12), (500, 300, 90), (33, 17, 11)):
             table = bytes([3])
             start = 16
             for kind, length in enumerate((order, turns, timing), 1):
@@ -89,6 +98,10 @@ class Damaged(Case):
             "7, an epoch of 0 and a sum above it": of_rows([7, 6, 4], 0, [0, 1, 1]).to_bytes(),
             "7, a sum above the epoch": of_rows([7, 6, 4], 3, [1, 2, 1]).to_bytes(),
             "8, a gap above the dead time": of_rows([7, 6, 4], timing=[6, 3, 2, 4, 2, 2, 3, 3, 1, 3]).to_bytes(),
+            "2, a timing of nine bytes": of_rows([7, 6, 4], timing=TIMING[:-1]).to_bytes(),
+            "2, a timing of twelve bytes": of_rows([7, 6, 4], timing=TIMING + [2, 2]).to_bytes(),
+            "8, a rank gap of 0": of_rows([7, 6, 4], timing=TIMING + [0]).to_bytes(),
+            "8, a rank gap above the dead time": of_rows([7, 6, 4], timing=TIMING + [4]).to_bytes(),
             "8, several timing bytes": of_rows([7, 6, 4], timing=[1, 1, 2, 4, 2, 2, 3, 3, 9, 3]).to_bytes(),
         }
         told = []
@@ -96,6 +109,31 @@ class Damaged(Case):
             self.assertEqual(str(self.library.read(data)), name[0])
             told.append("== %s\n%s\n" % (name, "\n".join(self.explained(data, names))))
         self.stored("policy/reasons.txt", "\n".join(told))
+
+    def test_both_lengths_of_the_timing(self):
+        """Ten bytes are shown as they were; an eleventh is the rank gap, from 1 to the dead time, 3."""
+        for gap, status in ((None, 0), (0, 8), (1, 0), (3, 0), (4, 8)):
+            data = of_rows([7, 6, 4], timing=TIMING + ([] if gap is None else [gap])).to_bytes()
+            answer = self.explained(data, whole=True)
+            self.assertEqual(self.library.read(data), status)
+            self.assertEqual(any(line.startswith("There are 4 ranks of 8 banks each.") for line in answer), status == 0 and gap is not None)
+            fields = decode(data, Names()).fields
+            self.assertEqual([known.value for known in fields if known.what == "rank gap"], [] if gap is None else [gap])
+            self.assertEqual([known.allowed for known in fields if known.what == "entry 3, timing: length"], ["10, or 11 with a rank gap"])
+
+    def test_the_text_of_a_file_with_a_rank_gap(self):
+        """It has the gap, and gives the bytes again; that of a refused one can be mended."""
+        data = of_rows([7, 6, 4], timing=TIMING + [2]).to_bytes()
+        (self.room / "policy.bin").write_bytes(data)
+        text = self.succeeds("policy", "show", "--toml", self.room / "policy.bin")
+        self.assertIn("answer_delay = 3\nrank_gap = 2\n", text)
+        (self.room / "again.toml").write_text(text)
+        self.succeeds("policy", "make", self.room / "again.toml")
+        self.assertEqual((self.room / "again.bin").read_bytes(), data)
+        (self.room / "policy.bin").write_bytes(data[:-1] + b"\x00")
+        status, text, _ = vig("policy", "show", "--toml", self.room / "policy.bin")
+        self.assertEqual(status, 1)
+        self.assertIn("rank_gap = 0\n", text)
 
     def test_a_file_that_is_no_policy(self):
         (self.room / "text.bin").write_text("This is not a policy file at all, but a text of some length.\n")

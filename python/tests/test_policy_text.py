@@ -90,6 +90,11 @@ MISTAKES = {
     "a dead time smaller than two gaps": [("gap_read_write = 2", "gap_read_write = 4"), ("same_bank_after_write = 3", "same_bank_after_write = 5")],
     "a gap of 0": [("gap_write_read = 2", "gap_write_read = 0")],
     "a gap of 32": [("gap_write_read = 2", "gap_write_read = 32")],
+    "a rank gap of 0": [("answer_delay = 3", "answer_delay = 3\nrank_gap = 0")],
+    "a rank gap above the dead time": [("answer_delay = 3", "answer_delay = 3\nrank_gap = 4")],
+    "a rank gap of 32": [("answer_delay = 3", "answer_delay = 3\nrank_gap = 32")],
+    "a rank gap that is no number": [("answer_delay = 3", 'answer_delay = 3\nrank_gap = "none"')],
+    "a rank gap mistyped": [("answer_delay = 3", "answer_delay = 3\nrankgap = 2")],
     "an answer delay above the dead time": [("answer_delay = 3", "answer_delay = 4")],
     "an answer delay of 1": [("answer_delay = 3", "answer_delay = 1")],
     "a column delay not below the answer delay": [("column_delay = 1", "column_delay = 3")],
@@ -136,12 +141,13 @@ def any_order(random_numbers):
 
 
 def any_text(random_numbers):
-    """The rows of a random order, and a text for it with shuffled classes, numbers given, and now and then more in `above` than is needed."""
+    """The rows of a random order, and a text for it with shuffled classes, numbers given, now and then more in `above` than is needed, and a rank gap or none."""
     rows = any_order(random_numbers)
     n = len(rows)
     dead = random_numbers.randint(2, 31)
     answer = random_numbers.randint(2, dead)
     timing = [random_numbers.randint(dead + 1, 255), dead] + [random_numbers.randint(1, dead) for _ in range(6)] + [random_numbers.randint(1, answer - 1), answer]
+    timing += [random_numbers.randint(1, dead) for _ in range(random_numbers.randint(0, 1))]
     epoch = random_numbers.randint(1, 64)
     minimums = [0] * n
     for _ in range(random_numbers.randint(0, epoch)):
@@ -230,6 +236,28 @@ class Texts(Case):
         self.assertEqual(status, 0)
         self.assertIn("is 2.52 cycles, rounded up to 3 (15 ns)", err)
 
+    def test_a_rank_gap_may_be_left_out(self):
+        """Without it the timing has ten bytes and there is one rank; with it, eleven and four. It may stand anywhere among the others."""
+        for change, timing, ranks in (
+            ([], [6, 3, 2, 2, 2, 2, 3, 3, 1, 3], 1),
+            ([("turn_length = 6", "rank_gap = 1\nturn_length = 6")], [6, 3, 2, 2, 2, 2, 3, 3, 1, 3, 1], 4),
+            ([("answer_delay = 3", "answer_delay = 3\nrank_gap = 3")], [6, 3, 2, 2, 2, 2, 3, 3, 1, 3, 3], 4),
+        ):
+            text = read_policy_text(self.write(self.changed(change)))
+            self.assertEqual((text.policy.timing, text.policy.ranks, text.names.with_ranks), (timing, ranks, ranks > 1))
+            self.assertEqual(text.policy.to_bytes()[14:16], bytes([len(timing), 0]))
+            self.assertEqual("rank_gap = " in text_of(text.policy, text.names), ranks > 1)
+
+    def test_a_rank_gap_as_a_time(self):
+        path = self.write(self.changed([("[timing]", '[timing]\nclock = "200 MHz"'), ("answer_delay = 3", 'answer_delay = 3\nrank_gap = "8 ns"')]))
+        self.assertEqual(read_policy_text(path).policy.rank_gap, 2)
+        self.assertIn('  rank_gap: "8 ns" is 1.6 cycles, rounded up to 2 (10 ns)\n', self.succeeds("policy", "check", path))
+
+    def test_check_says_how_many_ranks(self):
+        said = "There are 4 ranks of 8 banks each. An activate comes at least 1 cycle, the rank gap, after the last one of all where that was on another rank"
+        self.assertIn(said, self.succeeds("policy", "check", self.write(self.changed([("answer_delay = 3", "answer_delay = 3\nrank_gap = 1")]))))
+        self.assertNotIn("rank", self.succeeds("policy", "check", self.write(GOOD)))
+
     def test_a_clock_by_its_period(self):
         for clock in ("5 ns", "5000 ps", "0.005 us", "200 MHz", "0.2 GHz", "200000 kHz"):
             path = self.write(self.changed([("[timing]", '[timing]\nclock = "%s"' % clock), ("dead_time = 3", 'dead_time = "15 ns"')]))
@@ -245,7 +273,7 @@ class Texts(Case):
         """On generated orders: the bytes are those of the order, the proved reader takes them, and the text shown from them gives them again."""
         random_numbers = random.Random(13)
         library = build.library()
-        least_elsewhere = 0
+        least_elsewhere = with_ranks = 0
         for _ in range(200):
             rows, epoch, minimums, timing, text = any_text(random_numbers)
             policy = read_policy_text(self.write(text)).policy
@@ -255,4 +283,6 @@ class Texts(Case):
             again = read_policy_text(self.write(text_of(policy_of(data), Names({0: "class_1"}))))
             self.assertEqual(again.policy.to_bytes(), data, text)
             least_elsewhere += policy.least != 0
+            with_ranks += policy.ranks == 4
         self.assertGreater(least_elsewhere, 50)
+        self.assertTrue(50 < with_ranks < 150)

@@ -15,7 +15,7 @@ from vigambul.tables import aligned, grouped
 from .samples import FIVE, generated, write, write_five
 from .support import EXAMPLES, Case, vig
 
-TAKEN = ("busy-bank", "chain-of-three", "diamond", "printed-log", "refused-calls", "single-class", "two-tenants", "two-tenants-busy")
+TAKEN = ("busy-bank", "chain-of-three", "diamond", "printed-log", "refused-calls", "single-class", "two-ranks", "two-tenants", "two-tenants-busy")
 
 
 class Stored(Case):
@@ -34,6 +34,20 @@ class Stored(Case):
         self.stored("report/both-tenants.txt", self.named(out))
         self.stored("report/both-tenants.csv", self.named((self.room / "f.csv").read_text()))
         self.stored("report/both-tenants.json", self.named((self.room / "f.json").read_text()))
+
+    def test_with_ranks(self):
+        """A policy of four ranks beside one of one: the CSV has a column for each rank, empty for those that there are none of; the JSON of the other is as it was."""
+        self.succeeds("report", EXAMPLES / "two-ranks", EXAMPLES / "printed-log", "--csv", self.room / "f.csv", "--json", self.room / "f.json")
+        self.stored("report/with-ranks.csv", self.named((self.room / "f.csv").read_text()))
+        self.stored("report/with-ranks.json", self.named((self.room / "f.json").read_text()))
+
+    def test_together_with_ranks(self):
+        """One folder twice: each figure doubles. A run's first activate is on no other rank than the last of the run before."""
+        out = self.succeeds("report", EXAMPLES / "two-ranks", EXAMPLES / "two-ranks")
+        changes = ["on another rank than the one before: %d of %d activates" % pair for pair in ((5, 9), (5, 9), (10, 18))]
+        self.assertEqual([line for line in out.splitlines() if line.startswith("on another rank")], changes)
+        ranks = [line.split()[-4:] for line in out.splitlines() if line.startswith(("host", "video"))]
+        self.assertEqual(ranks[-2:], [["8", "6", "0", "0"], ["0", "4", "0", "0"]])
 
     def test_five(self):
         self.stored("report/five.txt", self.named(self.succeeds("report", write_five(self.room / "five"), "--epochs")))
@@ -83,7 +97,7 @@ class Numbers(Case):
         """All eight are offered before cycle 0, so the waits are the answers' cycles: 9, 13, 19, 21, 23, 27, 30, 38. Turn 3, from cycle 36 on, has no activate."""
         service = self.figures("single-class").services[0]
         self.assertEqual(service.waited, 180)
-        self.assertEqual((service.answers, service.mean, service.median, service.rank(95), service.longest), (8, 180 / 8, 21, 38, 38))
+        self.assertEqual((service.answers, service.mean, service.median, service.nearest_rank(95), service.longest), (8, 180 / 8, 21, 38, 38))
         self.assertEqual((service.turns, service.idle, service.elided, service.activates), (4, 1, 4, 8))
         self.assertEqual((service.passing, service.past_one), (0, 0))
 
@@ -118,25 +132,35 @@ class Numbers(Case):
         self.assertEqual([service.turns for service in services], [2, 2, 3, 4, 5])
 
     def test_ranks(self):
+        """Of the nine activates the host's are on ranks 0, 1, 1, 0, then 0, 0, 1, and video's two in between on rank 1: five are on another rank than the one before."""
+        figures = self.figures("two-ranks")
+        self.assertEqual([service.on_ranks for service in figures.services], [[4, 3, 0, 0], [0, 2, 0, 0]])
+        self.assertEqual(figures.rank_changes, 5)
+
+    def test_nearest_ranks(self):
         """The nearest rank of 1 to 100, and of few."""
         service = self.figures("printed-log").services[0]
         service.waits.clear()
         for wait in range(1, 101):
             service.waits[wait] += 1
-        self.assertEqual((service.median, service.rank(95), service.longest), (50, 95, 100))
+        self.assertEqual((service.median, service.nearest_rank(95), service.longest), (50, 95, 100))
         service.waits.clear()
         service.waits.update([7, 3])
-        self.assertEqual((service.median, service.rank(95)), (3, 7))
+        self.assertEqual((service.median, service.nearest_rank(95)), (3, 7))
 
     def test_generated(self):
         """Every figure counted once more from the calls, in another way."""
-        seen = left = passed = most = 0
+        seen = left = passed = most = changes = 0
         for ran in generated(build.library(), self.room, 25, 300):
             figures = figures_of(ran)
             calls = list(calls_of(ran.trace, ran.log))
             ticks = [call for call in calls if call.ticks]
             owners = [owner_of(call.turn) for call in ticks if call.turn]
-            activates = [(call.cycle // ran.policy.turn, request_of(call.command).class_) for call in ticks if call.command and not call.command & COLUMN]
+            requests = [(call.cycle // ran.policy.turn, request_of(call.command)) for call in ticks if call.command and not call.command & COLUMN]
+            activates = [(turn, request.class_) for turn, request in requests]
+            ranks = [request.rank for _, request in requests]
+            self.assertEqual(figures.rank_changes, sum(one != other for one, other in zip(ranks, ranks[1:])))
+            changes += figures.rank_changes
             self.assertEqual((figures.ticks, figures.turns), (len(ticks), len(owners)))
             self.assertEqual(figures.busy, sum(call.command != 0 for call in ticks))
             self.assertEqual(figures.refusals, Counter(call.status for call in calls if call.status))
@@ -150,6 +174,8 @@ class Numbers(Case):
                 self.assertEqual((service.homes, service.homes_owned), (len(homes), sum(owners[turn] == number for turn in homes)))
                 left += service.homes - service.homes_owned
                 self.assertEqual(service.activates, sum(owner == number for _, owner in activates))
+                mine_on = [request.rank for _, request in requests if request.class_ == number]
+                self.assertEqual(service.on_ranks, [mine_on.count(rank) for rank in range(4)])
                 self.assertEqual(service.idle, sum(owner == number and (turn, number) not in activates for turn, owner in enumerate(owners)))
                 self.assertEqual(service.elided, sum(call.turn == number + 257 for call in ticks))
                 self.assertEqual((service.passing, service.past_one), passing_of(number, calls))
@@ -160,7 +186,7 @@ class Numbers(Case):
                 if waits:
                     self.assertAlmostEqual(service.mean, statistics.mean(waits))
                     self.assertEqual(service.median, statistics.median_low(waits))
-                    self.assertEqual(service.rank(95), sorted(waits)[-(-95 * len(waits) // 100) - 1])
+                    self.assertEqual(service.nearest_rank(95), sorted(waits)[-(-95 * len(waits) // 100) - 1])
                 self.assertEqual(list(figures.turns_in_epochs(number)), [epoch.count(number) for epoch in whole if len(epoch) == ran.policy.epoch])
                 seen += len(waits)
             if len(owners) % ran.policy.epoch:
@@ -171,6 +197,7 @@ class Numbers(Case):
         self.assertGreater(left, 20)
         self.assertGreater(passed, 100)
         self.assertGreater(most, 2)
+        self.assertGreater(changes, 100)
 
     def test_together(self):
         """Over all: the CSV's rows of a class add up to the JSON's figures over all."""

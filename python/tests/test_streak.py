@@ -93,6 +93,16 @@ class Counting(StreakCase):
         self.assertEqual(entry["policy"], "fd5eefb099d87bbf0c493fa097b53c879d076de78d4fa684735c11d0de9b3a58")
         self.assertEqual(entry["trace"], "af5570f5a1810b7af78caf4bc70a660f0df51e42baf91d4de5b2328de0e83dfc")
 
+    def test_ranks_are_told(self):
+        """A block that answers from the wrong rank: the difference is in bits 22 and 23 of one word, and the words on both sides name the rank."""
+        example = EXAMPLES / "two-ranks"
+        block = self.text((example / "expected.txt").read_text().replace("80410006 80020007", "80410006 80420007"))
+        status, out, _ = vig("streak", example, block, "--ledger", self.ledger)
+        self.assertEqual(status, 1)
+        self.assertIn("this run differs: first in cycle 30, last in cycle 30\n", out)
+        self.assertRegex(out, r"\n +answer host read rank 0 bank 2 tag 7 +answer host read rank 1 bank 2 tag 7\n")
+        self.assertTrue(vig("streak", example, example / "expected.txt", "--ledger", self.ledger)[1].startswith("streak: 41 cycles"))
+
     def test_offers_take_no_cycle(self):
         """A difference in an offer's line is one in the cycle that is ticked next: here cycle 1 of 3."""
         trace = [0, OFFER, OFFER, 0, 0]

@@ -10,7 +10,7 @@ from vigambul.traffic_csv import CsvReader
 
 from .support import EXAMPLES, Case, vig
 
-FOLDERS = [EXAMPLES / name for name in ("chain-of-three", "diamond", "printed-log", "refused", "refused-calls", "single-class", "two-tenants", "two-tenants-busy")]
+FOLDERS = [EXAMPLES / name for name in ("chain-of-three", "diamond", "printed-log", "refused", "refused-calls", "single-class", "two-ranks", "two-tenants", "two-tenants-busy")]
 
 BAD_CSV = """\
 cycle,class,kind,bank,tag,word
@@ -138,7 +138,7 @@ class RoundTrips(TraceCase):
         draws = Draws("round trips")
         for number in range(30):
             words = [0 if draws.chance(0.5) else draws.below(1 << 32) for _ in range(draws.below(40))]
-            words += [1 << 31 | draws.below(1 << 21) for _ in range(draws.below(5))]
+            words += [1 << 31 | draws.below(1 << 24) for _ in range(draws.below(5))]
             data = bytes_of(words) + bytes(draws.below(256) for _ in range(draws.below(4)))
             (self.room / "any.bin").write_bytes(data)
             options = () if number % 2 else ("--policy", EXAMPLES / "printed-log" / "policy.bin")
@@ -147,7 +147,8 @@ class RoundTrips(TraceCase):
             self.assertEqual((self.room / "again.bin").read_bytes(), data)
 
     def test_shown_covers_each_number(self):
-        (self.room / "any.bin").write_bytes(bytes_of([0, 0, 1 << 31, 0, 0xFFFFFFFF, 0x80C00000, 0x20000000]) + b"\x01")
+        """Ticks, offers with and without a rank, and malformed numbers, of bits 29 and 30 too, which belong to no field."""
+        (self.room / "any.bin").write_bytes(bytes_of([0, 0, 1 << 31, 0, 0xFFFFFFFF, 0x80C00000, 0x20000000, 0xA0400000, 0xC0C00000]) + b"\x01")
         self.stored("trace/any.txt", self.succeeds("trace", "show", self.room / "any.bin"))
 
     def test_empty(self):
@@ -177,6 +178,43 @@ class Csv(TraceCase):
         told = self.mistakes("t.csv", "cycle,class,kind,bank,tag\n" + "\n".join(lines) + "\n")
         self.assertTrue(told.startswith("vig: 6 mistakes in"), told[:200])
         self.assertLess(max(map(len, told.splitlines())), 2_000)
+
+    def test_ranks(self):
+        """A column of its own, which may be missing or have empty cells: rank 0. Numbers may be hexadecimal."""
+        shutil.copy(EXAMPLES / "two-ranks" / "policy.bin", self.room)
+        words, said = self.made("t.csv", "cycle,rank,class,kind,bank\n0,1,0,r,3\n0,0x2,0,w,3\n1,,1,r,3\n1,3,1,w,7\n2,,,end,\n")
+        self.assertEqual([hex(word) for word in words], ["0x80430001", "0x80930002", "0x0", "0x81030001", "0x81d70002", "0x0"])
+        self.assertNotIn("warning", said)
+        self.assertEqual(list(self.made("t.csv", "cycle,class,kind,bank\n0,0,r,3\n1,,end,\n")[0]), [0x80030001, 0])
+
+    def test_mistakes_of_ranks(self):
+        lines = ("0,red,read,4,3", "0,red,read,-1,3", "0,red,read,one,3", "9,,end,0,", "0,,word,1,")
+        self.stored("trace/bad-ranks.csv.txt", self.mistakes("bad.csv", "cycle,class,kind,rank,bank\n" + "\n".join(lines) + "\n"))
+
+    def test_a_rank_that_will_be_refused(self):
+        """The tenants' policy has one rank: a warning for each other one. With a policy of four, or none that is known, there is nothing to warn of."""
+        text = "cycle,class,kind,rank,bank\n0,1,read,0,3\n0,1,read,1,3\n0,1,read,3,8\n1,,end,,\n"
+        words, said = self.made("t.csv", text)
+        self.assertEqual([hex(word) for word in words], ["0x81030001", "0x81430002", "0x81c80003", "0x0"])
+        self.stored("trace/rank-warnings.txt", said)
+        self.assertEqual(self.made("t.csv", text, "--policy", EXAMPLES / "two-ranks" / "policy.bin")[1].count("warning"), 1)
+        (self.room / "policy.bin").unlink()
+        self.assertEqual(self.made("t.csv", text)[1].count("warning"), 1)
+
+    def test_ranks_given_back(self):
+        """A trace as CSV has the column where the policy has four ranks or an offer has another than 0; whatever else there is beside it."""
+        for words, left_over, policy, head in (
+            ([0x80030001, 0], b"", "two-tenants", "cycle,class,kind,bank,tag"),
+            ([0x80430001, 0], b"", "two-tenants", "cycle,class,kind,rank,bank,tag"),
+            ([0x80030001, 0], b"", "two-ranks", "cycle,class,kind,rank,bank,tag"),
+            ([0x80C30001, 0xA0000000, 0], b"\x01", "two-tenants", "cycle,class,kind,rank,bank,tag,word"),
+        ):
+            data, options = bytes_of(words) + left_over, ("--policy", EXAMPLES / policy / "policy.bin")
+            (self.room / "any.bin").write_bytes(data)
+            csv = self.succeeds("trace", "show", "--csv", self.room / "any.bin", *options)
+            self.assertEqual(csv.splitlines()[0], head)
+            self.succeeds("trace", "make", self.text("any.csv", csv), "-o", self.room / "again.bin", *options)
+            self.assertEqual((self.room / "again.bin").read_bytes(), data)
 
     def test_tags_wrap(self):
         words = trace_of(Traffic([Entry(0, 1)] * 65_537, 0, b"", []))
@@ -277,6 +315,30 @@ class Streams(TraceCase):
         self.assertEqual([request.bank for request in requests], [5, 6, 5, 6, 5, 6, 5, 6, 5])
         self.assertEqual([request.kind for request in requests], [0, 0, 0, 1, 0, 0, 1, 0, 0])
 
+    def test_ranks_in_turn(self):
+        """All banks on a rank, then on the next."""
+        words, _ = self.made("t.toml", 'cycles = 9\n[[stream]]\nclass = 0\nevery = 1\nranks = [2, 0]\nbanks = [5, 6]\npick = "in turn"\n')
+        requests = [request_of(word) for word in words if word]
+        self.assertEqual([(request.rank, request.bank) for request in requests], [(2, 5), (2, 6), (0, 5), (0, 6), (2, 5), (2, 6), (0, 5), (0, 6), (2, 5)])
+
+    def test_ranks_at_random(self):
+        """Those of the list, each about as often as it stands there. On a single rank banks and kinds are the same, whichever it is; without the key it is 0."""
+        shutil.copy(EXAMPLES / "two-ranks" / "policy.bin", self.room)
+        every = 'cycles = 2000\n[[stream]]\nclass = 1\nevery = 1\nwrites = 0.5\n'
+        drawn = [request_of(word).rank for word in self.made("t.toml", every + "ranks = [1, 1, 3]\n")[0] if word]
+        self.assertEqual(set(drawn), {1, 3})
+        self.assertTrue(1200 < drawn.count(1) < 1470, drawn.count(1))
+        plain = [request_of(word) for word in self.made("t.toml", every)[0] if word]
+        self.assertEqual({request.rank for request in plain}, {0})
+        for rank in range(4):
+            words, said = self.made("t.toml", every + "ranks = [%d]\n" % rank)
+            self.assertEqual([request_of(word) for word in words if word], [request._replace(rank=rank) for request in plain])
+            self.assertNotIn("warning", said)
+
+    def test_mistakes_of_ranks(self):
+        streams = "".join('[[stream]]\nclass = "red"\nranks = %s\n' % ranks for ranks in ("[]", "1", '[0, 4, -1, true, "x"]'))
+        self.stored("trace/bad-ranks.toml.txt", self.mistakes("bad.toml", "cycles = 3\n" + streams + '[[stream]]\nclass = "red"\nrank = 1\n'))
+
     def test_defaults(self):
         """A single burst of one request at cycle 0; without cycles, to the end of the epoch after it."""
         words, _ = self.made("t.toml", '[[stream]]\nclass = "red"\n')
@@ -302,7 +364,7 @@ class Streams(TraceCase):
         self.stored("trace/bad-cycles.txt", self.mistakes("bad.toml", 'cycles = "9"\n[[stream]]\nclass = "red"\n'))
 
     def test_warnings(self):
-        _, err = self.made("t.toml", 'cycles = 3\n[[stream]]\nclass = 17\n[[stream]]\nclass = "red"\nbanks = [8]\n')
+        _, err = self.made("t.toml", 'cycles = 3\n[[stream]]\nclass = 17\n[[stream]]\nclass = "red"\nranks = [0, 2]\nbanks = [8]\n')
         self.stored("trace/stream-warnings.txt", err)
 
 

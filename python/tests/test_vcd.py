@@ -6,7 +6,7 @@ from vigambul import build
 from vigambul.folders import folder_at, run_folder
 from vigambul.formats import is_column, is_elided, owner_of, request_of
 from vigambul.history import calls_of
-from vigambul.policies import Names
+from vigambul.policies import Names, Policy
 from vigambul.waveform import identifiers
 
 from .samples import FIVE, FIVE_NAMES, generated, write, write_five
@@ -140,12 +140,14 @@ class VcdCase(Case):
             request = request_of(word)
             values[scope + ".name"] = text(names[request.class_] if word else "-")
             values.update({scope + ".class": request.class_, scope + ".kind": request.kind, scope + ".bank": request.bank, scope + ".tag": request.tag})
+            if policy.ranks > 1:
+                values[scope + ".rank"] = request.rank
         return values
 
 
 class Compared(VcdCase):
     def test_examples(self):
-        for name in ("busy-bank", "chain-of-three", "diamond", "printed-log", "refused-calls", "single-class", "two-tenants-busy"):
+        for name in ("busy-bank", "chain-of-three", "diamond", "printed-log", "refused-calls", "single-class", "two-ranks", "two-tenants-busy"):
             with self.subTest(name):
                 ran = run_folder(build.library(), folder_at(EXAMPLES / name))
                 dump = self.dump(EXAMPLES / name)
@@ -184,6 +186,16 @@ class Compared(VcdCase):
         passed = [values["vigambul.passed.graphics"] for values in self.dump(EXAMPLES / "busy-bank").cycles]
         self.assertEqual(passed, [0] * 11 + [1] * 2 + [2] * 2 + [0] * 8 + [1] * 3 + [0] * 8)
 
+    def test_ranks_by_hand(self):
+        """The two ranks: the command wires' ranks where they carry something, and the answers'. A policy of one rank has no such signals."""
+        dump = self.dump(EXAMPLES / "two-ranks")
+        self.assertEqual((dump.widths["vigambul.command.rank"], dump.widths["vigambul.answer.rank"]), (2, 2))
+        busy = [values for values in dump.cycles if values["vigambul.command.activate"] or values["vigambul.command.column"]]
+        self.assertEqual([values["vigambul.command.rank"] for values in busy], [0, 0, 1, 1, 1, 1, 0, 0, 1, 1, 1, 1, 0, 0, 0, 0, 1, 1])
+        self.assertEqual([values["vigambul.answer.rank"] for values in dump.cycles if values["vigambul.answer.valid"]], [0, 1, 1, 0, 1, 1, 0, 0, 1])
+        self.assertEqual({values["vigambul.command.rank"] for values in dump.cycles if values not in busy}, {0})
+        self.assertEqual([path for path in self.dump(EXAMPLES / "diamond").widths if path.endswith(".rank")], [])
+
     def test_no_ticks(self):
         """Only the values before the first cycle: what waits is shown."""
         dump = self.dump(write(self.room / "still", FIVE, [0x81000001, 0x81000002], FIVE_NAMES))
@@ -206,6 +218,17 @@ class SaveFile(VcdCase):
         self.assertEqual(titles[0::2], titles[1::2])
         self.assertEqual(titles[0::2], ["-turn", "-owner", "-home turn", "-dead time", "-command", "-answer", "-queue", "-passed", "-turns left"])
         self.assertIn('[dumpfile] "out.vcd"', lines)
+
+    def test_lists_the_ranks(self):
+        """Between kind and bank, in both scopes; and with sixteen classes there are codes enough."""
+        self.dump(EXAMPLES / "two-ranks")
+        listed = [line for line in (self.room / "out.gtkw").read_text().splitlines() if line.startswith(("vigambul.command.", "vigambul.answer."))]
+        fields = ["class[4:0]", "name[39:0]", "kind[1:0]", "rank[1:0]", "bank[3:0]", "tag[15:0]"]
+        wanted = ["command." + field for field in ["activate", "column", *fields]] + ["answer." + field for field in ["valid", *fields]]
+        self.assertEqual(listed, ["vigambul." + path for path in wanted])
+        policy = Policy([0xFFFF] + [1 << number for number in range(1, 16)], 1, [0] * 16, [6, 3, 2, 2, 2, 2, 3, 3, 1, 3, 2])
+        dump = self.dump(write(self.room / "sixteen", policy, [0]))
+        self.assertEqual(len(dump.codes), 72)
 
 
 class NamesAndUsage(VcdCase):

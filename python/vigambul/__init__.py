@@ -5,12 +5,12 @@ the modules here turn texts into their files and their numbers into words, table
 |---|---|
 | `cli` | the command line: which commands there are, and the exit statuses |
 | `errors` | what ends a command early, with its exit status |
-| `formats` | words, log lines, turn numbers and refusal numbers |
-| `policies` | a policy file as a value, its bytes, its caps, covers and home turns, and the names of its classes |
+| `formats` | words with their fields, log lines, turn numbers and refusal numbers |
+| `policies` | a policy file as a value, its bytes, its caps, covers, home turns and ranks, and the names of its classes |
 | `policy_text` | a policy as TOML, read and written |
 | `policy_ranges` | the ranges of a policy's numbers, for telling which is out |
 | `policy_show` | any file taken apart as a policy file, byte by byte |
-| `sign_off` | what a policy means: flows, minimums, caps and home turns, timing |
+| `sign_off` | what a policy means: flows, minimums, caps and home turns, timing, ranks |
 | `minimums` | the plan of an epoch, and what minimums and caps do and guarantee, under the rules in force |
 | `order_drawing` | the order of a policy as a drawing |
 | `clock` | times turned into cycles |

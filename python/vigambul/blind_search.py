@@ -9,29 +9,32 @@ from pathlib import Path
 from .blind import difference_words, first_difference, seen_of
 from .draws import Draws
 from .folders import Folder, run_folder
-from .formats import BANKS, CLASSES, COLUMN, OFFER, QUEUE_PLACES, Request, words_of
+from .formats import BANKS, CLASSES, COLUMN, OFFER, QUEUE_PLACES, RANKS, Request, words_of
 from .policies import policy_of
 
 # A pair passes so many epochs, and ticks at least so often.
 EPOCHS = 3
 LEAST_CYCLES = 64
+# A bit that belongs to no field of an offer.
+STRAY = 1 << 29
 
 
-def a_request(draws, number):
-    """A word of a class: now and then with a bank or a kind that there is none of, mostly to few banks, so that neighbours meet."""
+def a_request(draws, policy, number):
+    """A word of a class: now and then with a bank or a kind that there is none of, mostly to few banks, and to two of the ranks where there are four, so that neighbours meet."""
     bank = draws.below(2 * BANKS) if draws.chance(0.03) else draws.below(3) if draws.chance(0.5) else draws.below(BANKS)
     kind = draws.below(4) if draws.chance(0.03) else draws.below(2)
-    return Request(number, kind, bank, draws.below(65_536)).word
+    rank = 0 if policy.ranks == 1 else draws.below(2) if draws.chance(0.7) else draws.below(RANKS)
+    return Request(number, kind, bank, draws.below(65_536), rank).word
 
 
 def a_stray(draws, policy):
     """A word that no class may be told of: malformed, or an offer of a class that there is none of."""
-    word = a_request(draws, draws.below(CLASSES))
+    word = a_request(draws, policy, draws.below(CLASSES))
     return draws.one_of((
         word & ~OFFER | 1,
         word | COLUMN,
-        word | 1 << 22,
-        a_request(draws, policy.classes + draws.below(2 * CLASSES - policy.classes)),
+        word | STRAY,
+        a_request(draws, policy, policy.classes + draws.below(2 * CLASSES - policy.classes)),
     ))
 
 
@@ -72,7 +75,7 @@ def offers_of(draws, policy, classes, cycles):
     by_cycle = {}
     for number in classes:
         for cycle in draws.one_of(HABITS)(draws, policy, cycles):
-            by_cycle.setdefault(min(cycle, cycles), []).append(a_request(draws, number))
+            by_cycle.setdefault(min(cycle, cycles), []).append(a_request(draws, policy, number))
     return by_cycle
 
 

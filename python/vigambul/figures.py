@@ -4,14 +4,14 @@ from array import array
 from collections import Counter
 from dataclasses import dataclass, field
 
-from .formats import QUEUE_FULL, class_of
+from .formats import QUEUE_FULL, RANKS, class_of, rank_of
 from .history import Replay
 
 
 @dataclass
 class Service:
     """A class's figures. `waits` has how many answered requests waited how long; `homes` are its home turns, whoever owned them; `passing` are its activates that passed an older
-    request, and `past_one` is the most that passed one oldest."""
+    request, and `past_one` is the most that passed one oldest; `on_ranks` has how many of its activates were on each rank."""
 
     taken: int = 0
     full: int = 0
@@ -24,6 +24,7 @@ class Service:
     activates: int = 0
     passing: int = 0
     past_one: int = 0
+    on_ranks: list = field(default_factory=lambda: [0] * RANKS)
 
     @property
     def answers(self):
@@ -40,14 +41,14 @@ class Service:
 
     @property
     def median(self):
-        return self.rank(50)
+        return self.nearest_rank(50)
 
     @property
     def longest(self):
         return max(self.waits, default=None)
 
-    def rank(self, percent):
-        """The nearest rank: the least wait that at least so many in 100 of the answered requests do not exceed."""
+    def nearest_rank(self, percent):
+        """By nearest rank: the least wait that at least so many in 100 of the answered requests do not exceed."""
         place = -(-percent * self.answers // 100)
         for wait in sorted(self.waits):
             place -= self.waits[wait]
@@ -67,18 +68,20 @@ class Service:
         self.activates += other.activates
         self.passing += other.passing
         self.past_one = max(self.past_one, other.past_one)
+        self.on_ranks = [mine + others for mine, others in zip(self.on_ranks, other.on_ranks)]
 
 
 @dataclass
 class Figures:
     """The figures of a run, or of several under one policy. `whole` has the turns of each class in each epoch all of whose turns started, class by class, epoch after epoch;
-    `part` those of the epoch in which a run ended, where not all of its turns started."""
+    `part` those of the epoch in which a run ended, where not all of its turns started. `rank_changes` are the activates on another rank than the one before."""
 
     policy: object
     services: list
     ticks: int = 0
     turns: int = 0
     columns: int = 0
+    rank_changes: int = 0
     refusals: Counter = field(default_factory=Counter)
     whole: array = field(default_factory=lambda: array("B"))
     part: list = None
@@ -112,6 +115,7 @@ class Figures:
         self.ticks += other.ticks
         self.turns += other.turns
         self.columns += other.columns
+        self.rank_changes += other.rank_changes
         self.refusals += other.refusals
         self.whole += other.whole
         self.part = None
@@ -129,6 +133,8 @@ class Counting(Replay):
         self.figures = empty_figures(policy)
         self.owned = [0] * policy.classes
         self.used = False
+        # The rank of the last activate of all.
+        self.rank = None
 
     def refused(self, word, status):
         self.figures.refusals[status] += 1
@@ -163,6 +169,10 @@ class Counting(Replay):
         service.activates += 1
         service.passing += older > 0
         service.past_one = max(service.past_one, self.queues[self.owner].passed)
+        rank = rank_of(word)
+        service.on_ranks[rank] += 1
+        self.figures.rank_changes += self.rank not in (None, rank)
+        self.rank = rank
 
     def column(self, word):
         self.figures.columns += 1

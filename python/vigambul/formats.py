@@ -5,6 +5,8 @@ from dataclasses import dataclass
 from typing import NamedTuple
 
 CLASSES = 16
+# Four ranks of eight banks, where the policy has a rank gap; without one there is rank 0 alone (W-206).
+RANKS = 4
 BANKS = 8
 QUEUE_PLACES = 8
 # So many may pass the oldest request of a class.
@@ -13,8 +15,8 @@ LAST_CYCLE = 16_777_215
 
 OFFER = 1 << 31
 COLUMN = 1 << 30
-# The bits that an offer has: 31, the class's, the kind's, the bank's and the tag's.
-OFFER_BITS = OFFER | 0x1F << 24 | 0x3 << 20 | 0xF << 16 | 0xFFFF
+# The bits that an offer has: 31, the class's, the rank's, the kind's, the bank's and the tag's.
+OFFER_BITS = OFFER | 0x1F << 24 | 0x3 << 22 | 0x3 << 20 | 0xF << 16 | 0xFFFF
 ELIDED = 256
 
 # The numbers of an offer whose class has all its places taken, and of a tick after the last one.
@@ -26,16 +28,17 @@ KINDS = ("read", "write")
 
 
 class Request(NamedTuple):
-    """What an offer, a command and an answer carry."""
+    """What an offer, a command and an answer carry. A bank is known by rank and bank together: bank 3 of rank 0 is another than bank 3 of rank 1."""
 
     class_: int
     kind: int
     bank: int
     tag: int
+    rank: int = 0
 
     @property
     def word(self):
-        return OFFER | self.class_ << 24 | self.kind << 20 | self.bank << 16 | self.tag
+        return OFFER | self.class_ << 24 | self.rank << 22 | self.kind << 20 | self.bank << 16 | self.tag
 
 
 def class_of(word):
@@ -43,9 +46,14 @@ def class_of(word):
     return word >> 24 & 0x1F
 
 
+def rank_of(word):
+    """The rank of a request's word."""
+    return word >> 22 & 0x3
+
+
 def request_of(word):
     """The request of an offer's, a command's or an answer's word."""
-    return Request(class_of(word), word >> 20 & 0x3, word >> 16 & 0xF, word & 0xFFFF)
+    return Request(class_of(word), word >> 20 & 0x3, word >> 16 & 0xF, word & 0xFFFF, rank_of(word))
 
 
 def is_tick(word):
@@ -115,7 +123,7 @@ REFUSALS = {
     2: Refusal(
         "the number of classes is not 1 to 16, or a body's length does not fit it",
         "a class was added or taken out in one body and not in the others",
-        "give each class its row and its minimum, and the lengths 1 + 2n, 1 + n and 10",
+        "give each class its row and its minimum, and the lengths 1 + 2n, 1 + n and 10, or 11 with a rank gap",
     ),
     3: Refusal(
         "a row has a bit at n or above, or lacks its own",
@@ -148,7 +156,11 @@ REFUSALS = {
         "raise the dead time to the longest gap and the answer delay, and the turn length above it",
     ),
     9: Refusal("the class is none of the policy's", "a class number at or above n", "offer to a class below n"),
-    10: Refusal("the bank is above 7 or the kind above 1", "a bank number of 8 to 15", "use banks 0 to 7, kinds 0 (read) and 1 (write)"),
+    10: Refusal(
+        "the bank is above 7, the kind above 1, or the rank not 0 where there is one rank",
+        "a bank number of 8 to 15, or a rank of 1 to 3 though the policy has no rank gap",
+        "use banks 0 to 7, kinds 0 (read) and 1 (write), and ranks 1 to 3 only with a rank gap in the policy",
+    ),
     11: Refusal("8 requests of that class wait already", "more offers than turns", "offer later, or give the class more turns"),
     12: Refusal("16,777,215 ticks have passed", "a trace that is too long", "cut the trace, and start anew"),
     13: Refusal("a policy or state handed in is out of range", "a policy or state that no call gave", "start from a fresh state of a policy that was taken"),

@@ -5,7 +5,7 @@ from collections import defaultdict, deque
 from dataclasses import dataclass
 
 from .errors import Wrong
-from .formats import class_of, is_offer
+from .formats import class_of, is_offer, rank_of
 from .history import Replay
 from .svg import coordinate, element, file_of, text, title_of
 from .words import command_words, counted, refusal_words, request_words, trace_words
@@ -44,6 +44,8 @@ LEGENDS = (
     ("answer", "answer"),
     ("epoch", "epoch starts"),
 )
+# What is said in place of these where the policy has four ranks.
+RANK_LEGENDS = {"activate": "activate, with its rank"}
 
 STYLE = """
 text { font-family: Helvetica, Arial, 'DejaVu Sans', sans-serif; font-size: 11px; fill: #444444; }
@@ -94,18 +96,24 @@ class Flight:
 
 
 class Events(Replay):
-    """What happened in a range of cycles: bars, flights, and marks by kind, class and cycle, each with its words. A refused call that is of no class of the policy has None."""
+    """What happened in a range of cycles: bars, flights, marks by kind, class and cycle, each with its words, and the ranks of activates by cycle. A refused call that is of no class
+    of the policy has None."""
 
     def __init__(self, policy, names, first, last):
         super().__init__(policy)
         self.names, self.first, self.last = names, first, last
         self.bars, self.flights = [], deque()
         self.marks = {kind: defaultdict(list) for kind in MARKS}
+        self.ranks = {}
         self._began = 0
         self._open = deque()
 
+    @property
+    def _is_shown(self):
+        return self.first <= self.cycle <= self.last
+
     def _mark(self, kind, number, words):
-        if self.first <= self.cycle <= self.last:
+        if self._is_shown:
             self.marks[kind][number, self.cycle].append(words())
 
     def refused(self, word, status):
@@ -128,6 +136,8 @@ class Events(Replay):
         self._open.append(flight)
         if self.cycle <= self.last:
             self.flights.append(flight)
+        if self._is_shown:
+            self.ranks[self.cycle] = rank_of(word)
         self._mark("passing" if older else "activate", self.owner, lambda: command_words(word, self.names, older))
 
     def answered(self, word, offered):
@@ -284,17 +294,27 @@ class Drawing:
         self.parts.append(element("path", kind="flight", d="M%s %s%sH%s" % (coordinate(start), coordinate(top), down, coordinate(end))))
 
     def _lane(self, kind, height):
-        """The marks of a kind. Where several stand for one cycle, their number is written beside the mark if there is room before the next."""
+        """The marks of a kind. What is to be said of one is written beside it if there is room before the next, which may be of another kind at the same height."""
         marks = self.events.marks[kind]
+        beside = [self.events.marks[other] for other in MARKS if MARKS[other] == height]
         for number in self.rows:
             y = self.y(number) + height
-            cycles = sorted(cycle for row, cycle in marks if row == number)
+            cycles = sorted(cycle for others in beside for row, cycle in others if row == number)
             for cycle, following in zip(cycles, [*cycles[1:], None]):
+                if (number, cycle) not in marks:
+                    continue
                 x, words = self.middle(cycle), marks[number, cycle]
                 self.parts.append(_mark(kind, x, y, self.size, "\n".join("cycle %d: %s" % (cycle, word) for word in words)))
-                needed = 2 * self.size + 4 + SMALL_CHARACTER * len(str(len(words)))
-                if len(words) > 1 and (following is None or self.wide * (following - cycle) >= needed):
-                    self.parts.append(text(x + self.size + 2, y + 4, str(len(words)), kind="count"))
+                label = self._label(kind, cycle, words)
+                needed = 2 * self.size + 4 + SMALL_CHARACTER * len(label)
+                if label and (following is None or self.wide * (following - cycle) >= needed):
+                    self.parts.append(text(x + self.size + 2, y + 4, label, kind="count"))
+
+    def _label(self, kind, cycle, words):
+        """What is written beside a mark: how many it stands for, if that is more than one; beside an activate its rank, if there are four."""
+        if kind in ("activate", "passing"):
+            return str(self.events.ranks[cycle]) if self.policy.ranks > 1 else ""
+        return str(len(words)) if len(words) > 1 else ""
 
     def _axis(self):
         self.parts.append(element("line", kind="axis", x1=self.left, y1=self.bottom, x2=self.right, y2=self.bottom))
@@ -308,6 +328,7 @@ class Drawing:
         """What each sign means, one after the other."""
         x, y = MARGIN + 6, self.bottom + AXIS + 14
         for kind, words in LEGENDS:
+            words = RANK_LEGENDS.get(kind, words) if self.policy.ranks > 1 else words
             if kind in MARKS:
                 self.parts.append(_mark(kind, x + 8, y - 4, 4.5))
             elif kind == "epoch":
@@ -335,6 +356,8 @@ class Drawing:
         self._axis()
         head = "%s: cycles %d to %d" % (self.title, self.first, self.last)
         times = "Dead time %d cycles, answer %d cycles after its activate." % (self.policy.dead, self.policy.answer_delay)
+        if self.policy.ranks > 1:
+            times += " %d ranks, rank gap %s." % (self.policy.ranks, counted(self.policy.rank_gap, "cycle"))
         width = max(self.right + MARGIN + self.wide, self._legend(), 2 * MARGIN + TITLE_CHARACTER * len(head))
         height = self.bottom + AXIS + LEGEND
         words = (

@@ -6,9 +6,9 @@ from dataclasses import dataclass, field
 from pathlib import Path
 
 from .errors import Wrong
-from .formats import CLASSES
+from .formats import CLASSES, RANKS
 
-# The timing body's bytes in order: a key for texts, and words.
+# The timing body's bytes in order: a key for texts, and words. The last, the rank gap, may be left out: there is one rank then, and with it there are four (W-206).
 TIMING = (
     ("turn_length", "turn length"),
     ("dead_time", "dead time"),
@@ -20,9 +20,15 @@ TIMING = (
     ("same_bank_after_write", "same-bank gap after a write"),
     ("column_delay", "column delay"),
     ("answer_delay", "answer delay"),
+    ("rank_gap", "rank gap"),
 )
 TIMING_KEYS = tuple(key for key, _ in TIMING)
+NEEDED_TIMING_KEYS = TIMING_KEYS[:-1]
+# The lengths that a timing body may have: without the rank gap, and with it.
+TIMING_LENGTHS = (len(NEEDED_TIMING_KEYS), len(TIMING_KEYS))
 BODIES_START = 16
+# Where the contents table has the length of the timing body.
+TIMING_LENGTH_AT = 14
 ENTRY_KINDS = ("order", "turns", "timing")
 
 
@@ -104,6 +110,16 @@ class Policy:
     def answer_delay(self):
         return self.timing[9]
 
+    @property
+    def ranks(self):
+        """How many ranks there are, of eight banks each."""
+        return RANKS if len(self.timing) == len(TIMING) else 1
+
+    @property
+    def rank_gap(self):
+        """The gap from the last activate of all where that was on another rank; None where there is one rank."""
+        return self.timing[10] if self.ranks > 1 else None
+
     def to_bytes(self):
         """The file. Numbers that do not fit their bytes are an error of the caller's."""
         order = bytes([self.classes]) + b"".join(row.to_bytes(2, "little") for row in self.rows)
@@ -123,7 +139,13 @@ def policy_of(data):
     turns_at = rows_at + 2 * n
     timing_at = turns_at + 1 + n
     rows = [int.from_bytes(data[rows_at + 2 * i : rows_at + 2 * i + 2], "little") for i in range(n)]
-    return Policy(rows, data[turns_at], list(data[turns_at + 1 : timing_at]), list(data[timing_at : timing_at + len(TIMING)]))
+    # The timing is the last body, and ends the file: it has ten bytes or eleven.
+    return Policy(rows, data[turns_at], list(data[turns_at + 1 : timing_at]), list(data[timing_at:]))
+
+
+def has_ranks(data):
+    """Whether a policy file has four ranks, by the length that its contents table gives the timing body. Of a file that is not taken it says nothing."""
+    return int.from_bytes(data[TIMING_LENGTH_AT : TIMING_LENGTH_AT + 2], "little") == len(TIMING)
 
 
 NUMBERS = tuple(map(str, range(CLASSES)))
@@ -132,9 +154,11 @@ NAME = re.compile(r"[A-Za-z_][A-Za-z0-9_-]{0,31}\Z")
 
 @dataclass
 class Names:
-    """The names of classes. A class without one is called by its number."""
+    """How a policy's requests are called: the names of its classes, where a class without one is called by its number, and whether a request of rank 0 is told with its rank, as it
+    is where there are four."""
 
     by_number: dict = field(default_factory=dict)
+    with_ranks: bool = False
 
     def of(self, number):
         return self.by_number.get(number, "class %d" % number)
@@ -155,11 +179,11 @@ class Names:
 
 
 def names_beside(policy_path):
-    """The names kept beside a policy file: policy.names for policy.bin. Without that file there are none."""
-    path = Path(policy_path).with_suffix(".names")
+    """The names kept beside a policy file: policy.names for policy.bin. Without that file there are none. Whether ranks are told is seen from the policy file, if it is there."""
+    policy, path = Path(policy_path), Path(policy_path).with_suffix(".names")
+    names = Names(with_ranks=policy.is_file() and has_ranks(policy.read_bytes()))
     if not path.is_file():
-        return Names()
-    names = Names()
+        return names
     for place, line in enumerate(path.read_text(errors="replace").splitlines(), 1):
         words = line.split()
         if not words or words[0].startswith("#"):

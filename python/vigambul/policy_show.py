@@ -5,8 +5,9 @@ from dataclasses import dataclass, field
 
 from .formats import CLASSES, REFUSALS
 from .minimums import plan_words
-from .policies import BODIES_START, ENTRY_KINDS, TIMING, TIMING_KEYS, Names, Policy
+from .policies import BODIES_START, ENTRY_KINDS, TIMING, TIMING_KEYS, TIMING_LENGTHS, Names, Policy
 from .policy_ranges import LONGEST_EPOCH, TIMING_RANGES
+from .sign_off import rank_words
 from .tables import aligned
 
 SMALLEST, LARGEST = 17, 65_535
@@ -84,7 +85,7 @@ def _contents(layout):
     """The contents table, with what 1 asks of it; hands back the entries as kind, start and length."""
     size, entries = len(layout.data), []
     if not SMALLEST <= size <= LARGEST:
-        mend = "the file is cut or empty: make it anew" if size < SMALLEST else "this is no policy file: the largest there is has 76 bytes"
+        mend = "the file is cut or empty: make it anew" if size < SMALLEST else "this is no policy file: the largest there is has 77 bytes"
         layout.fault(1, (), "the file has %d bytes, and a policy file has %d to %s" % (size, SMALLEST, format(LARGEST, ",")), mend)
     bodies = layout.take("contents", 0, 1, "3", "how many bodies there are")
     if bodies is not None and bodies != len(ENTRY_KINDS):
@@ -111,14 +112,25 @@ def _contents(layout):
 
 
 def _lengths(n):
-    return 1 + 2 * n, 1 + n, len(TIMING)
+    """The lengths that the three bodies of n classes may have."""
+    return (1 + 2 * n,), (1 + n,), TIMING_LENGTHS
+
+
+def _fit(lengths, n):
+    return all(length in allowed for length, allowed in zip(lengths, _lengths(n)))
+
+
+def _lengths_by_count(n, size):
+    """The bodies' lengths where the contents table does not say them. The timing has the longer one of its lengths if the file ends with that."""
+    (order,), (turns,), (shorter, longer) = _lengths(n)
+    return order, turns, longer if size - BODIES_START - order - turns == longer else shorter
 
 
 def _sizes(layout, entries, n):
     """What 2 asks: n, and the lengths that go with it. Fills in what lengths are allowed."""
-    formulas = ("1 + 2n", "1 + n", str(len(TIMING)))
+    formulas = ("1 + 2n", "1 + n", "%d, or %d with a rank gap" % TIMING_LENGTHS)
     sound = n is not None and 1 <= n <= CLASSES
-    fitting = next((count for count in range(1, CLASSES + 1) if _lengths(count) == tuple(length for _, _, length in entries)), None)
+    fitting = next((count for count in range(1, CLASSES + 1) if _fit([length for _, _, length in entries], count)), None)
     mend_count = "write the number of classes into byte 16" if fitting is None else "write %d into byte 16: the lengths are those of %d classes" % (fitting, fitting)
     if n is None and len(layout.data) > BODIES_START:
         layout.fault(2, (_entry_offsets(0)[2],), "the order body has no byte, so there is no n", "the order's length is 1 + 2n")
@@ -128,11 +140,13 @@ def _sizes(layout, entries, n):
         offset = _entry_offsets(place)[2]
         for known in layout.fields:
             if known.offset == offset:
-                known.allowed = formulas[place] if not sound or place == 2 else "%s = %d" % (formulas[place], _lengths(n)[place])
+                known.allowed = formulas[place] if not sound or place == 2 else "%s = %d" % (formulas[place], *_lengths(n)[place])
                 known.judged = sound
-        if length is not None and sound and length != _lengths(n)[place]:
-            must = formulas[place] if place == 2 else "%s = %d, since n is %d" % (formulas[place], _lengths(n)[place], n)
+        if length is not None and sound and length not in _lengths(n)[place]:
+            must = formulas[place] if place == 2 else "%s = %d, since n is %d" % (formulas[place], *_lengths(n)[place], n)
             mend = "where n is wrong, %s; else mend the length and the body: a class has a row of 2 bytes and a minimum of 1" % mend_count
+            if place == 2:
+                mend = "give the timing body its %d numbers, or %d with the rank gap, and write that as its length" % TIMING_LENGTHS
             layout.fault(2, (offset,), "the %s body has a length of %d by bytes %d and %d, and must have %s" % (ENTRY_KINDS[place], length, offset, offset + 1, must), mend)
     return sound
 
@@ -144,7 +158,7 @@ def _bodies(layout, entries, n, sound):
         layout.take("order", BODIES_START, 1, "1 to 16", "n, the number of classes")
         layout.rest("order", BODIES_START + 1, len(layout.data), "not read: neither the contents table nor n says what stands here")
         return None
-    lengths = [length for _, _, length in entries] if by_table else _lengths(n)
+    lengths = [length for _, _, length in entries] if by_table else _lengths_by_count(n, len(layout.data))
     at_order, at_turns = BODIES_START, BODIES_START + lengths[0]
     at_timing = at_turns + lengths[1]
     end = at_timing + lengths[2]
@@ -156,10 +170,9 @@ def _bodies(layout, entries, n, sound):
     minimums = [layout.take("turns", at_turns + 1 + i, 1, "sum at most E", "minimum of %s" % layout.names.of(i)) for i in given]
     layout.rest("turns", at_turns + 1 + CLASSES, at_timing, "minimums of classes that there are none of")
     timing = [layout.take("timing", at_timing + place, 1, _timing_words(key), words) for place, (key, words) in enumerate(TIMING) if place < lengths[2]]
-    layout.rest("timing", at_timing + len(TIMING), end, "more than the 10 numbers of the timing")
+    layout.rest("timing", at_timing + len(TIMING), end, "more than the %d numbers of the timing" % len(TIMING))
     layout.rest("behind", end, len(layout.data), "behind the last body")
-    whole = tuple(lengths) == _lengths(n) if sound else False
-    if whole and None not in rows + minimums + timing + [epoch]:
+    if sound and _fit(lengths, n) and None not in rows + minimums + timing + [epoch]:
         return Policy(rows, epoch, minimums, timing), at_order + 1, at_turns, at_timing
     return None
 
@@ -236,12 +249,19 @@ def _turn_faults(layout, policy, at_turns):
 def _timing_faults(layout, policy, at_timing):
     """What 8 asks of each timing byte."""
     timing, words = dict(zip(TIMING_KEYS, policy.timing)), dict(TIMING)
-    for place, key in enumerate(TIMING_KEYS):
-        fits, value = TIMING_RANGES[key], timing[key]
+    for place, (key, value) in enumerate(timing.items()):
+        fits = TIMING_RANGES[key]
         if not fits.fits(value, timing):
             beside = "" if fits.other is None else " (the %s is %d)" % (words[fits.other], timing[fits.other])
             why = "the %s, byte %d, is %d, and must be %s%s" % (words[key], at_timing + place, value, _timing_words(key), beside)
-            layout.fault(8, (at_timing + place,), why, REFUSALS[8].mend)
+            layout.fault(8, (at_timing + place,), why, _timing_mend(key, value))
+
+
+def _timing_mend(key, value):
+    """What to mend of a timing byte. A rank gap of 0 may be meant for none, and none is a byte less."""
+    if key == "rank_gap" and value == 0:
+        return "give the rank gap 1 cycle or more; or, for one rank, take its byte out, and write %d as the length of the timing body" % TIMING_LENGTHS[0]
+    return REFUSALS[8].mend
 
 
 def decode(data, names):
@@ -327,11 +347,11 @@ def _cycle_words(layout):
 
 
 def answer_words(layout, status):
-    """The proved reader's answer, and what explains it, as lines; of a policy that is taken, its plan of home turns."""
+    """The proved reader's answer, and what explains it, as lines; of a policy that is taken, its plan of home turns, and its ranks."""
     if status == 0:
         policy, names = layout.policy, layout.names
         caps = ", ".join("%s %d" % (names.of(i), policy.cap(i)) for i in range(policy.classes))
-        return ["The proved reader: taken (0). The least class is %s; caps: %s." % (names.of(policy.least), caps), plan_words(policy, names)]
+        return ["The proved reader: taken (0). The least class is %s; caps: %s." % (names.of(policy.least), caps), plan_words(policy, names), *rank_words(policy)]
     lines = ["The proved reader: refused %d: %s." % (status, REFUSALS[status].when)]
     faults = [fault for fault in layout.faults if fault.number == status]
     reasons, mends = _told(faults), list(dict.fromkeys(fault.mend for fault in faults))[:TOLD]

@@ -5,6 +5,7 @@
     [timing]                  # cycles; or times, as in "15 ns", with a clock, as in clock = "200 MHz"
     turn_length = 6
     ..
+    rank_gap = 2              # there are four ranks; without it there is one
 
     [class.base]
 
@@ -18,7 +19,7 @@ from dataclasses import dataclass, field
 
 from .clock import CLOCK_WORDS, TIME_WORDS, Converted, period_of, time_of
 from .formats import CLASSES
-from .policies import NAME, TIMING, TIMING_KEYS, Names, Policy, class_mask
+from .policies import NAME, NEEDED_TIMING_KEYS, TIMING, TIMING_KEYS, Names, Policy, class_mask
 from .policy_ranges import GAP_KEYS, HIGHEST_DEAD, LONGEST_EPOCH, TIMING_RANGES
 from .toml_text import nearest, read_toml, value_words
 
@@ -103,11 +104,12 @@ class _Reader:
 
     def timing(self):
         """The timing numbers by key, in cycles; those with a mistake are left out."""
-        table = self.table("timing", "a table with the keys %s" % ", ".join(TIMING_KEYS), "write a line [timing], with the keys below it")
+        needed = ", ".join(NEEDED_TIMING_KEYS)
+        table = self.table("timing", "a table with the keys %s" % needed, "write a line [timing], with the keys below it")
         meant = self.mistakes.unknown_keys(("timing",), table, TIMING_KEYS + ("clock",), "in [timing]")
-        missing = [key for key in TIMING_KEYS if key not in table and key not in meant]
+        missing = [key for key in NEEDED_TIMING_KEYS if key not in table and key not in meant]
         if missing and "timing" in self.tables and isinstance(self.tables["timing"], dict):
-            self.mistakes.add(("timing",), "[timing] lacks %s" % _listed(missing), "all of %s" % ", ".join(TIMING_KEYS), "add %s" % _listed(missing))
+            self.mistakes.add(("timing",), "[timing] lacks %s" % _listed(missing), "all of %s" % needed, "add %s" % _listed(missing))
         period = self.period(table)
         timing = {}
         for key in TIMING_KEYS:
@@ -156,7 +158,8 @@ class _Reader:
         fits = TIMING_RANGES[key]
         if too_long:
             return "take a slower clock for the controller (each cycle longer), or a shorter time"
-        return "give %s a number of cycles, %d to %d" % (key, fits.lowest, fits.highest)
+        left_out = "" if key in NEEDED_TIMING_KEYS else ", or take the line out: there is one rank then"
+        return "give %s a number of cycles, %d to %d%s" % (key, fits.lowest, fits.highest, left_out)
 
     def compare(self, table, timing):
         """Tells timing numbers that do not go together."""
@@ -290,8 +293,8 @@ class _Reader:
         for name in by_number:
             for below in _reach(name, above):
                 rows[numbers[below]] |= class_mask(numbers[name])
-        policy = Policy(rows, epoch, [minimums[name] for name in by_number], [timing[key] for key in TIMING_KEYS])
-        return PolicyText(policy, Names({numbers[name]: name for name in by_number}), self.clock, self.converted)
+        policy = Policy(rows, epoch, [minimums[name] for name in by_number], [timing[key] for key in TIMING_KEYS if key in timing])
+        return PolicyText(policy, Names({numbers[name]: name for name in by_number}, policy.ranks > 1), self.clock, self.converted)
 
 
 def _reach(name, above):
@@ -332,7 +335,7 @@ def names_for_text(policy, names):
         while name in [other for place, other in known.items() if place != number]:
             name += "_"
         known[number] = name
-    return Names(known)
+    return Names(known, names.with_ranks)
 
 
 def text_of(policy, names, ordered=True):

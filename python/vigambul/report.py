@@ -4,7 +4,7 @@ import csv
 import io
 import json
 
-from .formats import QUEUE_FULL, REFUSALS
+from .formats import QUEUE_FULL, RANKS, REFUSALS
 from .tables import aligned, grouped
 from .words import counted
 
@@ -14,6 +14,9 @@ HEAD = (
     *("class", "taken", "refused %d" % QUEUE_FULL, "answers", "mean", "median", "95th", "longest", "owned", "idle", "started", "owned"),
     *("dropped", "all", "passing", "past one", "least", "most", "minimum", "cap"),
 )
+# Those that stand behind them where the policy has four ranks.
+RANK_GROUPS = (("activates on rank", RANKS),)
+RANK_HEAD = tuple(map(str, range(RANKS)))
 CSV_HEAD = (
     "folder",
     "class",
@@ -40,6 +43,7 @@ CSV_HEAD = (
     "minimum",
     "cap",
 )
+RANK_CSV_HEAD = tuple("activates_rank_%d" % rank for rank in range(RANKS))
 
 
 def _shown(value, form="%d"):
@@ -63,7 +67,7 @@ def _row(figures, names, number):
         service.answers,
         _shown(service.mean, "%.2f"),
         _shown(service.median),
-        _shown(service.rank(95)),
+        _shown(service.nearest_rank(95)),
         _shown(service.longest),
         service.turns,
         service.idle,
@@ -77,6 +81,7 @@ def _row(figures, names, number):
         _shown(most),
         policy.minimums[number],
         policy.cap(number),
+        *(service.on_ranks if policy.ranks > 1 else ()),
     )
 
 
@@ -87,6 +92,8 @@ def _run_lines(figures, name):
     if figures.ticks:
         wires = "command wires busy in %d of %s (%.1f %%)" % (figures.busy, counted(figures.ticks, "cycle"), figures.busy_percent)
         lines.append("%s: %s, %s" % (wires, counted(figures.activates, "activate"), counted(figures.columns, "column command")))
+        if figures.policy.ranks > 1:
+            lines.append("on another rank than the one before: %d of %s" % (figures.rank_changes, counted(figures.activates, "activate")))
     for status, count in sorted(figures.refusals.items()):
         lines.append("refused with %d: %s (%s)" % (status, counted(count, "call"), REFUSALS[status].when))
     return lines
@@ -106,25 +113,29 @@ def _epoch_lines(figures, names):
 def text_of(figures, names, name, epochs=False):
     """A run's figures as a table."""
     lines = _run_lines(figures, name)
-    lines += ["", *grouped(GROUPS, [HEAD, *(_row(figures, names, number) for number in range(figures.policy.classes))])]
+    groups, head = (GROUPS + RANK_GROUPS, HEAD + RANK_HEAD) if figures.policy.ranks > 1 else (GROUPS, HEAD)
+    lines += ["", *grouped(groups, [head, *(_row(figures, names, number) for number in range(figures.policy.classes))])]
     if epochs:
         lines += ["", "turns owned in each epoch", *_epoch_lines(figures, names)]
     return "\n".join(lines) + "\n"
 
 
 def csv_of(reported):
-    """One row for each folder and class; `reported` has a folder's name, its figures and its classes' names."""
+    """One row for each folder and class; `reported` has a folder's name, its figures and its classes' names. If a policy has four ranks, all rows have columns for them; where there
+    is one rank, those of the others are empty."""
     out = io.StringIO()
     writer = csv.writer(out, lineterminator="\n")
-    writer.writerow(CSV_HEAD)
+    columns = RANKS if any(figures.policy.ranks > 1 for _, figures, _ in reported) else 0
+    writer.writerow(CSV_HEAD + RANK_CSV_HEAD[:columns])
     for name, figures, names in reported:
         for number, service in enumerate(figures.services):
             mean = None if service.mean is None else "%.3f" % service.mean
-            waits = [service.waited, mean, service.median, service.rank(95), service.longest]
+            waits = [service.waited, mean, service.median, service.nearest_rank(95), service.longest]
             turns = [service.turns, service.idle, service.homes, service.homes_owned, service.elided]
             activates = [service.activates, service.passing, service.past_one]
             epochs = [figures.epochs, *_extremes(figures, number), figures.policy.minimums[number], figures.policy.cap(number)]
-            writer.writerow([name, number, names.of(number), service.taken, service.full, service.answers, *waits, *turns, *activates, *epochs])
+            ranks = [service.on_ranks[rank] if rank < figures.policy.ranks else None for rank in range(columns)]
+            writer.writerow([name, number, names.of(number), service.taken, service.full, service.answers, *waits, *turns, *activates, *epochs, *ranks])
     return out.getvalue()
 
 
@@ -134,27 +145,31 @@ def _class_value(figures, names, number, epochs):
     whole = {"minimum": figures.policy.minimums[number], "cap": figures.policy.cap(number), "least": least, "most": most}
     if epochs:
         whole["each"] = list(figures.turns_in_epochs(number))
+    ranks = {"activates_on_ranks": service.on_ranks} if figures.policy.ranks > 1 else {}
     return {
         "class": number,
         "name": names.of(number),
         "offers": {"taken": service.taken, "refused_%d" % QUEUE_FULL: service.full},
         "answers": service.answers,
-        "waits": {"sum": service.waited, "mean": service.mean, "median": service.median, "95th": service.rank(95), "longest": service.longest},
+        "waits": {"sum": service.waited, "mean": service.mean, "median": service.median, "95th": service.nearest_rank(95), "longest": service.longest},
         "turns": {"owned": service.turns, "idle": service.idle, "dead_times_dropped": service.elided},
         "home_turns": {"started": service.homes, "owned": service.homes_owned},
         "activates": service.activates,
         "passing": {"activates": service.passing, "past_one": service.past_one},
         "whole_epochs": whole,
+        **ranks,
     }
 
 
 def _run_value(figures, names, epochs):
+    ranks = {"rank_changes": figures.rank_changes} if figures.policy.ranks > 1 else {}
     return {
         "ticks": figures.ticks,
         "turns": figures.turns,
         "whole_epochs": figures.epochs,
         "turns_in_an_epoch": figures.policy.epoch,
         "command_wires": {"busy": figures.busy, "busy_percent": figures.busy_percent, "activates": figures.activates, "columns": figures.columns},
+        **ranks,
         "refusals": {str(status): count for status, count in sorted(figures.refusals.items())},
         "classes": [_class_value(figures, names, number, epochs) for number in range(figures.policy.classes)],
     }

@@ -1,8 +1,10 @@
-"""What a policy means, for the person who signs it off: the flows as a table and in words, minimums, caps and home turns, the timing."""
+"""What a policy means, for the person who signs it off: the flows as a table and in words, minimums, caps and home turns, the timing and the ranks."""
 
+from .formats import BANKS
 from .minimums import minimum_words, plan_words
 from .policies import TIMING
 from .tables import aligned
+from .words import counted
 
 # The widest table of flows with names above its columns; a wider one has numbers there.
 WIDEST = 120
@@ -47,8 +49,18 @@ def turn_table(policy, names):
     return _table(rows)
 
 
-def timing_table(policy):
-    return _table([[words, str(cycles)] for (_, words), cycles in zip(TIMING, policy.timing)])
+def rank_words(policy):
+    """How many ranks there are and what the rank gap asks, as lines. Of one rank nothing is said."""
+    if policy.ranks == 1:
+        return []
+    asks = "at least %s, the rank gap, after the last one of all where that was on another rank, besides what the other gaps ask" % counted(policy.rank_gap, "cycle")
+    return ["There are %d ranks of %d banks each. An activate comes %s." % (policy.ranks, BANKS, asks)]
+
+
+def timing_words(policy):
+    """The timing numbers as a table, and what there is to say of ranks below it."""
+    ranks = rank_words(policy)
+    return _table([[words, str(cycles)] for (_, words), cycles in zip(TIMING, policy.timing)]) + ["" for _ in ranks] + ranks
 
 
 def sign_off(policy, names):
@@ -57,7 +69,7 @@ def sign_off(policy, names):
         ("Flows: a class in a row may flow to the classes with a yes", flow_table(policy, names) + [""] + flow_words(policy, names)),
         ("Turns: an epoch of %d; minimums add up to %d" % (policy.epoch, sum(policy.minimums)), turn_table(policy, names) + ["", plan_words(policy, names)]),
         ("What minimums and caps do and guarantee", minimum_words(policy, names)),
-        ("Timing, in cycles", timing_table(policy)),
+        ("Timing, in cycles", timing_words(policy)),
     )
     lines = []
     for title, body in parts:

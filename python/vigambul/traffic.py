@@ -5,7 +5,7 @@ from dataclasses import dataclass, field
 from pathlib import Path
 
 from .folders import read_file
-from .formats import BANKS, CLASSES, LAST_CYCLE, REFUSALS, Request, words_of
+from .formats import BANKS, CLASSES, LAST_CYCLE, RANKS, REFUSALS, Request, words_of
 from .policies import Names, names_beside, policy_of
 from .toml_text import nearest
 
@@ -17,10 +17,12 @@ MOST_CYCLES = 2 * LAST_CYCLE
 
 @dataclass
 class Known:
-    """What is known of the policy that traffic is for: its classes' names, their number, and the cycles of an epoch. The last two are None without a policy that is taken."""
+    """What is known of the policy that traffic is for: its classes' names, their number, how many ranks there are, and the cycles of an epoch. The last three are None without a
+    policy that is taken."""
 
     names: Names = field(default_factory=Names)
     classes: int = None
+    ranks: int = None
     epoch_cycles: int = None
 
     def class_number(self, text):
@@ -57,7 +59,7 @@ def known_of(given, beside, library):
         data = read_file(path)
         if library().read(data) == 0:
             policy = policy_of(data)
-            known.classes, known.epoch_cycles = policy.classes, policy.epoch * policy.turn
+            known.classes, known.ranks, known.epoch_cycles = policy.classes, policy.ranks, policy.epoch * policy.turn
     return known
 
 
@@ -71,6 +73,7 @@ class Entry:
     bank: int = 0
     tag: int = None
     word: int = None
+    rank: int = 0
 
 
 @dataclass
@@ -95,7 +98,7 @@ def trace_of(traffic):
             continue
         numbers[entry.class_] += 1
         tag = numbers[entry.class_] % TAG_FIELD if entry.tag is None else entry.tag
-        words.append(Request(entry.class_, entry.kind, entry.bank, tag).word)
+        words.append(Request(entry.class_, entry.kind, entry.bank, tag, entry.rank).word)
     words.frombytes(bytes(4 * (traffic.cycles - at)))
     return words
 
@@ -165,6 +168,15 @@ class Reader:
             return None
         if value >= BANKS:
             self.warn(place, "bank %d" % value, 10)
+        return value
+
+    def rank(self, place, value, shown):
+        """A rank, from a number that was read or None. Where the policy is not known, it may have them all."""
+        if value is None or not 0 <= value < RANKS:
+            self.tell(place, shown, "0 to %d" % (RANKS - 1), "write one of these numbers")
+            return None
+        if value >= (self.known.ranks or RANKS):
+            self.warn(place, "rank %d" % value, 10)
         return value
 
     def cycles(self, place, value, shown):

@@ -4,12 +4,12 @@ import csv
 import io
 
 from .folders import read_file
-from .formats import KINDS, LAST_CYCLE, is_offer, is_tick, request_of
+from .formats import KINDS, LAST_CYCLE, is_offer, is_tick, rank_of, request_of
 from .toml_text import Mistakes
 from .trace_words import runs_of
 from .traffic import MOST_CYCLES, TAG_FIELD, Entry, Place, Reader, Traffic, hex_of, number_of
 
-COLUMNS = ("cycle", "class", "kind", "bank", "tag", "word", "note")
+COLUMNS = ("cycle", "class", "kind", "rank", "bank", "tag", "word", "note")
 NEEDED = ("cycle", "class", "kind", "bank")
 KIND_WORDS = {"read": 0, "r": 0, "0": 0, "write": 1, "w": 1, "1": 1, "2": 2, "3": 3}
 KINDS_ALLOWED = "read (r, 0) or write (w, 1); for lines that are no request: end, word, bytes"
@@ -126,14 +126,16 @@ class CsvReader(Reader):
             self.tell(Place(line, "column kind"), values["kind"] or None, KINDS_ALLOWED, "write one of these")
         elif kind >= len(KINDS):
             self.warn(Place(line, "column kind"), "kind %d" % kind, 10)
+        # A rank that is left out is 0.
+        rank = self.rank(Place(line, "column rank"), number_of(values["rank"] or "0"), values["rank"])
         bank = self.bank(Place(line, "column bank"), number_of(values["bank"]), values["bank"] or None)
         tag = self.tag(line, values["tag"])
         self.empty(line, values, ("word",))
-        return None if None in (cycle, number, kind, bank) else Entry(cycle, number, kind, bank, tag)
+        return None if None in (cycle, number, kind, rank, bank) else Entry(cycle, number, kind, bank, tag, rank=rank)
 
     def word_row(self, line, values):
         """A trace number as it is. 0 would be a tick, and ticks are filled in."""
-        self.empty(line, values, ("class", "bank", "tag"))
+        self.empty(line, values, ("class", "rank", "bank", "tag"))
         cycle, word = self.cycle(line, values), hex_of(values["word"])
         if word is None or not 0 < word < 1 << 32:
             self.tell(Place(line, "column word"), values["word"] or None, "1 to FFFFFFFF in hexadecimal", "write the trace number; ticks (0) are filled in")
@@ -144,7 +146,7 @@ class CsvReader(Reader):
 
     def bytes_row(self, line, values):
         """Bytes left over at the end of the file."""
-        self.empty(line, values, ("cycle", "class", "bank", "tag"))
+        self.empty(line, values, ("cycle", "class", "rank", "bank", "tag"))
         place, digits = Place(line, "column word"), values["word"].replace(" ", "")
         if len(digits) not in (2, 4, 6) or hex_of(digits) is None or digits[:2].lower() == "0x":
             self.tell(place, values["word"] or None, "1 to 3 bytes of two hexadecimal digits each, as in 07 00 01", "write the bytes that are left over after the last word")
@@ -156,7 +158,7 @@ class CsvReader(Reader):
 
     def end_row(self, line, values):
         """How many cycles there are."""
-        self.empty(line, values, ("class", "bank", "tag", "word"))
+        self.empty(line, values, ("class", "rank", "bank", "tag", "word"))
         place = Place(line, "column cycle")
         if self.end_line:
             self.tell(place, values["cycle"] or None, "one line of kind end, and line %d is one" % self.end_line, "take one of the two out")
@@ -164,11 +166,18 @@ class CsvReader(Reader):
         self.end, self.end_line = self.cycles(place, number_of(values["cycle"]), values["cycle"] or None), line
 
 
+def _columns_for(words, left_over, names):
+    """The columns that a trace needs: ranks where the policy has four or an offer has another than 0, and words where there are numbers that are no offers or bytes left over."""
+    ranks = names.with_ranks or any(is_offer(word) and rank_of(word) for word in words)
+    others = bool(left_over) or any(not is_tick(word) and not is_offer(word) for word in words)
+    unused = {"note", *(() if ranks else ("rank",)), *(() if others else ("word",))}
+    return [column for column in COLUMNS if column not in unused]
+
+
 def csv_of(words, left_over, names):
     """A trace as CSV, from which it can be made again."""
-    with_words = bool(left_over) or any(not is_tick(word) and not is_offer(word) for word in words)
     text = io.StringIO()
-    out = csv.DictWriter(text, COLUMNS[: 6 if with_words else 5], restval="", lineterminator="\n")
+    out = csv.DictWriter(text, _columns_for(words, left_over, names), restval="", extrasaction="ignore", lineterminator="\n")
     out.writeheader()
     cycles = 0
     for _, cycle, word, ticks in runs_of(words):
@@ -176,7 +185,8 @@ def csv_of(words, left_over, names):
         if is_offer(word):
             request = request_of(word)
             kind = KINDS[request.kind] if request.kind < len(KINDS) else request.kind
-            out.writerow({"cycle": cycle, "class": names.by_number.get(request.class_, request.class_), "kind": kind, "bank": request.bank, "tag": request.tag})
+            owner = names.by_number.get(request.class_, request.class_)
+            out.writerow({"cycle": cycle, "class": owner, "kind": kind, "rank": request.rank, "bank": request.bank, "tag": request.tag})
         elif not ticks:
             out.writerow({"cycle": cycle, "kind": "word", "word": "%08X" % word})
     out.writerow({"cycle": cycles, "kind": "end"})

@@ -11,7 +11,7 @@ from .toml_text import meant_key, read_toml, value_words
 from .traffic import Entry, Place, Reader, Traffic
 
 TOP_KEYS = ("cycles", "stream")
-KEYS = ("class", "from", "to", "every", "burst", "banks", "writes", "pick", "seed")
+KEYS = ("class", "from", "to", "every", "burst", "ranks", "banks", "writes", "pick", "seed")
 PICKS = ("random", "in turn")
 MOST_BURST = 1024
 MOST_SEED = 2**63 - 1
@@ -28,6 +28,7 @@ class Stream:
     last: int
     every: int
     burst: int
+    ranks: list
     banks: list
     writes: Fraction
     pick: str
@@ -38,22 +39,25 @@ class Stream:
         choose = self.in_turn() if self.pick == "in turn" else self.at_random()
         for cycle in range(self.first, self.last + 1, self.every):
             for _ in range(self.burst):
-                kind, bank = next(choose)
-                yield Entry(cycle, self.class_, kind, bank)
+                kind, rank, bank = next(choose)
+                yield Entry(cycle, self.class_, kind, bank, rank=rank)
 
     def at_random(self):
-        """Kinds and banks by chance. They rest on the seed and the class alone, so that no stream moves another."""
+        """Kinds, ranks and banks by chance. They rest on the seed and the class alone, so that no stream moves another. A single rank is not drawn: banks and kinds are the same on
+        it as on any other."""
         draws, writes = Draws(self.seed, self.class_), float(self.writes)
         while True:
+            rank = draws.one_of(self.ranks) if len(self.ranks) > 1 else self.ranks[0]
             bank = draws.one_of(self.banks)
-            yield int(draws.chance(writes)), bank
+            yield int(draws.chance(writes)), rank, bank
 
     def in_turn(self):
-        """The banks one after the other, and the writes spread evenly: with a share of 1/2 read, write, read, write."""
+        """The banks one after the other, all of them on a rank and then on the next, and the writes spread evenly: with a share of 1/2 read, write, read, write."""
         number = 0
         while True:
             kind = int((number + 1) * self.writes) - int(number * self.writes)
-            yield kind, self.banks[number % len(self.banks)]
+            rounds, place = divmod(number, len(self.banks))
+            yield kind, self.ranks[rounds % len(self.ranks)], self.banks[place]
             number += 1
 
 
@@ -109,7 +113,8 @@ class StreamReader(Reader):
         if first is not None:
             self.within(self.place("from", number), first, self.ends)
         seed = self.number(number, row, "seed", 0, MOST_SEED, 0)
-        stream = Stream(class_, first, last, every, burst, self.banks(number, row), self.share(number, row), self.pick(number, row), seed)
+        ranks, banks = self.listed(number, row, "ranks", [0], self.rank), self.listed(number, row, "banks", list(range(BANKS)), self.bank)
+        stream = Stream(class_, first, last, every, burst, ranks, banks, self.share(number, row), self.pick(number, row), seed)
         if None not in (first, last, every):
             stream.last = last - (last - first) % every
         return stream
@@ -140,12 +145,13 @@ class StreamReader(Reader):
                 self.tell(place, last, "%d, which is from, or more" % first, "let the stream end after it begins")
         return last
 
-    def banks(self, number, row):
-        given, place = row.get("banks", list(range(BANKS))), self.place("banks", number)
+    def listed(self, number, row, key, default, read):
+        """The ranks or the banks of a stream, each of which is read."""
+        given, place = row.get(key, default), self.place(key, number)
         if not isinstance(given, list) or not given:
-            self.tell(place, value_words(given), "a list of banks, as in [0, 1]", "write at least one bank between brackets")
+            self.tell(place, value_words(given), "a list of %s, as in [0, 1]" % key, "write at least one %s between brackets" % key.removesuffix("s"))
             return None
-        return [self.bank(place, whole(bank), value_words(bank)) for bank in given]
+        return [read(place, whole(one), value_words(one)) for one in given]
 
     def share(self, number, row):
         value = row.get("writes", 0)

@@ -17,7 +17,7 @@ GROUP_BEGINS, GROUP_ENDS = 0x800200, 0x1000200
 ZOOM = "*-3.000000" + " -1" * 27
 
 TURN_BITS = 23
-CLASS_BITS, KIND_BITS, BANK_BITS, TAG_BITS = 5, 2, 4, 16
+CLASS_BITS, KIND_BITS, RANK_BITS, BANK_BITS, TAG_BITS = 5, 2, 2, 4, 16
 LENGTH_BITS = 4
 PASSED_BITS = 4
 LEFT_BITS = 7
@@ -53,7 +53,7 @@ class Signal:
 
 
 def _code(place):
-    """The short code of the signal at a place: a visible character. There are 94, and at most 70 signals."""
+    """The short code of the signal at a place: a visible character. There are 94, and at most 72 signals."""
     return chr(ord("!") + place)
 
 
@@ -81,6 +81,7 @@ class Signals:
 
     def __init__(self, policy, names):
         self.all = []
+        self.policy = policy
         self.names = identifiers(names, policy.classes)
         self.texts = [characters(name) for name in self.names]
         self.turn, self.epoch = self._add("", "turn", TURN_BITS), self._add("", "epoch", TURN_BITS)
@@ -105,9 +106,11 @@ class Signals:
         return self.all[-1]
 
     def _add_request(self, scope):
-        """The signals of a request: class, name, kind, bank, tag."""
-        number, name = self._add(scope, "class", CLASS_BITS), self._add_name(scope)
-        return number, name, self._add(scope, "kind", KIND_BITS), self._add(scope, "bank", BANK_BITS), self._add(scope, "tag", TAG_BITS)
+        """The signals of a request, by their names: class, name, kind, rank, if the policy has four, bank, tag."""
+        signals = {"class": self._add(scope, "class", CLASS_BITS), "name": self._add_name(scope), "kind": self._add(scope, "kind", KIND_BITS)}
+        if self.policy.ranks > 1:
+            signals["rank"] = self._add(scope, "rank", RANK_BITS)
+        return {**signals, "bank": self._add(scope, "bank", BANK_BITS), "tag": self._add(scope, "tag", TAG_BITS)}
 
     @property
     def scopes(self):
@@ -181,7 +184,8 @@ class Waveform(Replay):
         """The fields of a request; where there is none they are 0, and the name is a dash."""
         request = request_of(word)
         text = self.signals.texts[request.class_] if word else NO_NAME
-        self.pending.update(zip(signals, (request.class_, text, request.kind, request.bank, request.tag)))
+        values = {"class": request.class_, "name": text, "kind": request.kind, "rank": request.rank, "bank": request.bank, "tag": request.tag}
+        self.pending.update((signal, values[name]) for name, signal in signals.items())
 
     def _write(self):
         """Writes the values that have changed; before the first cycle's, all."""

@@ -9,10 +9,11 @@ def counted(number, thing, things=None, form="d"):
 
 
 def request_words(word, names):
-    """A request: its class, kind, bank and tag. Numbers that no request may have are shown as they are."""
+    """A request: its class, kind, rank, bank and tag. The rank is said where the policy has four, and where it is not 0. Numbers that no request may have are shown as they are."""
     request = request_of(word)
     kind = KINDS[request.kind] if request.kind < len(KINDS) else "kind %d" % request.kind
-    return "%s %s bank %d tag %d" % (names.of(request.class_), kind, request.bank, request.tag)
+    rank = "rank %d " % request.rank if names.with_ranks or request.rank else ""
+    return "%s %s %sbank %d tag %d" % (names.of(request.class_), kind, rank, request.bank, request.tag)
 
 
 def command_words(command, names, older=0):

@@ -10,6 +10,7 @@ use queues::Queues;
 use script::List;
 use state::State;
 use state::Turns;
+use timing::Timing;
 
 // The policy that reading a list's numbers as the bytes of a file gives.
 pub(crate) fn policy_of(file: List) -> Policy {
@@ -24,10 +25,29 @@ pub(crate) fn policy_of(file: List) -> Policy {
     reading.policy
 }
 
-// Row, Epoch, Dead time, Cover, Turns (a class's cap).
+// Dead time, Board (how many ranks there are), Gap (the rank gap).
+fn timing_with(t: Timing, field: u8, to: u32) -> Timing {
+    let mut timing = t;
+    match field {
+        b'D' => {
+            timing.dead = to;
+        }
+        b'B' => {
+            timing.ranks = to;
+        }
+        b'G' => {
+            timing.rank = to;
+        }
+        _ => {}
+    }
+    timing
+}
+
+// Row, Epoch, Cover, Turns (a class's cap), and what stands in the timing.
 fn policy_with(p: Policy, field: u8, place: u32, to: u32) -> Policy {
     let at = place as usize;
     let mut changed = p;
+    changed.timing = timing_with(p.timing, field, to);
     if 16 <= at {
         return changed;
     }
@@ -37,11 +57,6 @@ fn policy_with(p: Policy, field: u8, place: u32, to: u32) -> Policy {
         }
         b'E' => {
             changed.epoch = to;
-        }
-        b'D' => {
-            let mut timing = p.timing;
-            timing.dead = to;
-            changed.timing = timing;
         }
         b'C' => {
             changed.covers[at] = (to % 65536) as u16;
@@ -110,15 +125,13 @@ fn flight_with(f: Flight, field: u8, at: usize, to: u32) -> Flight {
             b'r' => {
                 flight.responses[at] = to;
             }
+            b'b' => {
+                flight.banks[at] = to;
+            }
             b'a' => {
                 flight.last = to;
             }
             _ => {}
-        }
-    }
-    if at < 8 {
-        if field == b'b' {
-            flight.banks[at] = to;
         }
     }
     flight

@@ -50,7 +50,7 @@ pub(crate) fn number_at(list: List, index: usize) -> u32 {
 // How many numbers of a line stand before its changes.
 fn own_numbers(letter: u8) -> usize {
     match letter {
-        b'o' => 4,
+        b'o' => 5,
         b'a' => 2,
         b'h' => 1,
         _ => 0,

@@ -33,13 +33,13 @@ fn of_turns(t: Turns, at: usize) -> u64 {
     }
 }
 
-// of its flight, 73,
+// of its flight, 97,
 fn of_flight(f: Flight, at: usize) -> u64 {
     if at < 32 {
         f.columns[at] as u64
     } else if at < 64 {
         f.responses[at - 32] as u64
-    } else if at < 72 {
+    } else if at < 96 {
         f.banks[at - 64] as u64
     } else {
         f.last as u64
@@ -52,9 +52,9 @@ fn of_state(s: State, at: usize) -> u64 {
         of_queues(s.queues, at)
     } else if at < 210 {
         of_turns(s.turns, at - 176)
-    } else if at < 283 {
+    } else if at < 307 {
         of_flight(s.flight, at - 210)
-    } else if at == 283 {
+    } else if at == 307 {
         s.cycle as u64
     } else {
         s.classes as u64
@@ -63,7 +63,7 @@ fn of_state(s: State, at: usize) -> u64 {
 
 pub(crate) fn same_state(a: State, b: State) -> bool {
     let mut at = 0;
-    while at < 285 {
+    while at < 309 {
         if of_state(a, at) != of_state(b, at) {
             return false;
         }
@@ -75,7 +75,7 @@ pub(crate) fn same_state(a: State, b: State) -> bool {
 // Whether a state is all zeros, as asking a fresh one of an unfit policy hands it back.
 pub(crate) fn all_zeros(s: State) -> bool {
     let mut at = 0;
-    while at < 285 {
+    while at < 309 {
         if of_state(s, at) != 0 {
             return false;
         }

@@ -85,13 +85,14 @@ pub(crate) fn call_of(p: Policy, s: State, word: u32) -> Called {
     }
 }
 
-// CLASS KIND BANK TAG.
+// CLASS RANK KIND BANK TAG.
 pub(crate) fn offer(c: Case) {
     let r = Request {
         class: number_at(c.own, 0),
-        kind: number_at(c.own, 1),
-        bank: number_at(c.own, 2),
-        tag: (number_at(c.own, 3) % 65536) as u16,
+        kind: number_at(c.own, 2),
+        bank: number_at(c.own, 3),
+        rank: number_at(c.own, 1),
+        tag: (number_at(c.own, 4) % 65536) as u16,
     };
     show(c.state, offer_of(c.policy, c.state, r));
 }

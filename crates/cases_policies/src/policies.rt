@@ -44,10 +44,18 @@ pub(crate) fn cut(c: Case) {
     read(file);
 }
 
-// A policy with one number changed. Number of classes, Row, Epoch, Minimum, Cover, Turns (a class's cap).
+// A policy with one number changed. Number of classes, Row, Epoch, Minimum, Board (how many ranks there are), Gap (the rank gap), Cover, Turns (a class's cap).
 fn with_number(p: Policy, field: u8, place: u32, to: u32) -> Policy {
     let at = place as usize;
     let mut changed = p;
+    let mut timing = p.timing;
+    if field == b'B' {
+        timing.ranks = to;
+    }
+    if field == b'G' {
+        timing.rank = to;
+    }
+    changed.timing = timing;
     if 16 <= at {
         return changed;
     }

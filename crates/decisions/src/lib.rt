@@ -2,9 +2,10 @@
 // shown, and when a gap is met.
 
 ghost use mathlib.Core.Path.{_≡_};
-ghost use Prim.Native.Nat.{_-_, _%_};
+ghost use Prim.Native.Nat.{_+_, _-_, _*_, _%_, _<_};
+ghost use lib.ListN.{getD};
 ghost use Rattle.rules.specs.Traversal.{moved, takesBy};
-ghost use Rattle.rules.specs.Wire.{opensAt, kindGap, bankGap};
+ghost use Rattle.rules.specs.Wire.{opensAt, kindGap, bankGap, rankOpens};
 ghost use Rattle.rules.specs.Step.{turnWord};
 use timing::Timing;
 
@@ -59,18 +60,49 @@ pub fn opens_at(last: u32, gap: u32) -> u64
     flight::activate_next(last) as u64 + gap as u64
 }
 
+// The gap between two kinds, the earlier first; and that of a bank, after a read and after a write. (Picked by tests and not by an index: for that the gaps would have to stand in memory, written
+// there for each request that is looked at.)
+fn kind_gap(gaps: [u32; 4], earlier: u32, later: u32) -> u32
+    ensures { λ r. ⌜ (earlier < 2 → later < 2 → r ≡ getD gaps (2 * earlier + later) 0) ⌝ }
+{
+    if earlier == 0 {
+        return if later == 0 { gaps[0] } else { gaps[1] };
+    }
+    if later == 0 { gaps[2] } else { gaps[3] }
+}
+
+fn bank_gap(gaps: [u32; 2], kind: u32) -> u32
+    ensures { λ r. ⌜ (kind < 2 → r ≡ getD gaps kind 0) ⌝ }
+{
+    if kind == 0 { gaps[0] } else { gaps[1] }
+}
+
 // The same of the gap from the last activate of all, by the two kinds. A kind is 0 or 1; another number, of which document 01 says nothing, counts as what it is modulo 2.
 pub fn kind_opens(timing: Timing, last: u32, kind: u32) -> u64
     ensures { λ r. ⌜ r ≡ opensAt last (kindGap timing last (kind % 2)) ⌝ }
 {
-    let after = (2 * flight::activate_kind(last) + kind % 2) as usize;
-    opens_at(last, timing.gaps[after])
+    let gaps = timing.gaps;
+    let gap = kind_gap(gaps, flight::activate_kind(last), kind % 2);
+    opens_at(last, gap)
+}
+
+// And of the gap between ranks: 0 where the last activate of all was on the rank.
+pub fn rank_opens(timing: Timing, last: u32, rank: u32) -> u64
+    ensures { λ r. ⌜ r ≡ rankOpens timing last rank ⌝ }
+{
+    let opens = opens_at(last, timing.rank);
+    if flight::activate_rank(last) == rank {
+        0
+    } else {
+        opens
+    }
 }
 
 // And of that from the last activate of a bank, by its kind.
 pub fn bank_opens(timing: Timing, of_bank: u32) -> u64
     ensures { λ r. ⌜ r ≡ opensAt «of_bank» (bankGap timing «of_bank») ⌝ }
 {
-    let same = flight::activate_kind(of_bank) as usize;
-    opens_at(of_bank, timing.bank[same])
+    let gaps = timing.bank;
+    let gap = bank_gap(gaps, flight::activate_kind(of_bank));
+    opens_at(of_bank, gap)
 }

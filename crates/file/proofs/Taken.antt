@@ -3,21 +3,21 @@
 -- Assumes nothing.
 use mathlib.Core.Path.{_≡_, refl, sym, ap, _∙_, subst}
 use mathlib.Core.Logic.{⊎-elim}
-use mathlib.Core.Bool.{Bool, true, false, cond}
+use mathlib.Core.Bool.{Bool, true, false, cond, _&&_}
 use mathlib.Core.List.{List, [], _∷_}
 use Prim.Native.Nat.{ℕ, zero, suc, _+_, _-_, _*_, _^_, _≤_, _<_}
 use native.Mathlib.Nat.{not-suc-le-zero, lt-of-lt-of-le}
 use native.Mathlib.Omega.{arith}
-use borrow.Author.Tests.{lt-ltb, le-ltb, le-leb, leb-true, eq-eqb, eqb-true}
+use borrow.Author.Tests.{lt-ltb, le-ltb, le-leb, leb-true, eq-eqb, ne-eqb, eqb-true}
 use lib.Dec.{leb, ltb, eqb, lit<, lit≤}
 use lib.ListN.{length, getD, List·getD-eq-default}
 use Rattle.basics.specs.Below.{sum, listOf}
 use Rattle.masks.specs.Mask.{member}
 use Rattle.order.specs.Order.{isClassIn, flowsIn, rowsFit, antisymmetric, transitive, hasLeast, coverSet}
 use Rattle.turns.specs.Turns.{minimumsSum, turnsSound, capIn, minimumsBelow}
-use Rattle.timing.specs.Timing.{within, gapsWithin, bankWithin, timingSound}
+use Rattle.timing.specs.Timing.{within, gapsWithin, bankWithin, rankWithin, timingSound}
 use Rattle.policy.specs.Policy.{isClass, coversOf, cap, firstFailing, policyTests, refusal, shaped, storedFits, allStoredFits, inRange, minimum}
-use Rattle.file.specs.File.{byte, word, kind, start, bodySize, kindsFit, bodiesAbut, contentsFit, classCount, lengthsFit, rowAt, epochOf, minimumAt, timingOf, held, fileTests, status, refusedWith, readFile}
+use Rattle.file.specs.File.{byte, word, kind, start, bodySize, kindsFit, bodiesAbut, contentsFit, classCount, lengthsFit, rowAt, epochOf, minimumAt, ranksOf, rankGapOf, timingOf, held, fileTests, status, refusedWith, readFile}
 use Rattle.policy.specs.Laws.{TimingLaws}
 use Rattle.order.specs.Laws.{Reflexive, Antisymmetric, Transitive, Least, SmallClasses}
 use Rattle.file.specs.Taken.{Bytes, Between, SoundTurns, SoundTiming, bits, policyOf, Encoded, TakenIff, Form, Lengths, fileOrder, Rows, conditions, FirstFails, RefusalNumbers}
@@ -107,12 +107,12 @@ module _ (s : List ℕ) where
   lengths-said : lengthsFit s ≡ true → Lengths s
   unfolding lengthsFit classCount bodySize
   lengths-said e =
-      let all = and-four (within 1 (byte s 16) 16) (eqb (word s 4) (1 + 2 * byte s 16)) (eqb (word s 9) (1 + byte s 16)) (eqb (word s 14) 10) e in
+      let all = and-four (within 1 (byte s 16) 16) (eqb (word s 4) (1 + 2 * byte s 16)) (eqb (word s 9) (1 + byte s 16)) (within 10 (word s 14) 11) e in
       record {
         count-bounds = between-said 1 (byte s 16) 16 (all .0);
         order-size = eqb-true (word s 4) (1 + 2 * byte s 16) (all .1);
         turns-size = eqb-true (word s 9) (1 + byte s 16) (all .2);
-        timing-size = eqb-true (word s 14) 10 (all .3);
+        timing-size = between-said 10 (word s 14) 11 (all .3);
       }
 
   lengths-tested : Lengths s → lengthsFit s ≡ true
@@ -121,7 +121,7 @@ module _ (s : List ℕ) where
       and-both
       (and-both (and-both (between-tested 1 (byte s 16) 16 (l .count-bounds)) (eq-eqb (word s 4) (1 + 2 * byte s 16) (l .order-size)))
       (eq-eqb (word s 9) (1 + byte s 16) (l .turns-size)))
-      (eq-eqb (word s 14) 10 (l .timing-size))
+      (between-tested 10 (word s 14) 11 (l .timing-size))
 
 -- ---- 3 to 8, of a file of bytes that 1 and 2 take
 
@@ -265,7 +265,16 @@ module _ (s : List ℕ) (given : Bytes s) (f : Form s) (l : Lengths s) where
   first-byte : byte s (word s 12) ≡ byte s (18 + 3 * byte s 16 + 0)
   first-byte = let at : word s 12 ≡ 18 + 3 * byte s 16 + 0 = omega (arith, timing-at) in ap (byte s) at
 
-  timing-said : timingSound (timingOf s) ≡ true → SoundTiming (λ k. byte s (18 + 3 * byte s 16 + k))
+  -- an eleventh byte is the rank gap, of four ranks; without it there is one rank, and none
+  ranked : word s 14 ≡ 11 → (ranksOf s ≡ 4) × (rankGapOf s ≡ byte s (word s 12 + 10))
+  unfolding ranksOf rankGapOf bodySize start
+  ranked e = let eleven = eq-eqb (word s 14) 11 e in (rw eleven, rw eleven)
+
+  unranked : word s 14 < 11 → (ranksOf s ≡ 1) × (rankGapOf s ≡ 0)
+  unfolding ranksOf rankGapOf bodySize start
+  unranked e = let ten = ne-eqb (word s 14) 11 (λ z. not-suc-le-zero {n = 0} (omega (arith, e, z))) in (rw ten, rw ten)
+
+  timing-said : timingSound (timingOf s) ≡ true → SoundTiming (word s 14) (λ k. byte s (18 + 3 * byte s 16 + k))
   unfolding timingOf start
   timing-said e =
       let law = timing-laws (timingOf s) e in
@@ -280,6 +289,11 @@ module _ (s : List ℕ) (given : Bytes s) (f : Form s) (l : Lengths s) where
               at-most = omega (arith, law .response-bounds .1, timing-byte 9, timing-byte 1);
             };
         column-delay = (omega (arith, law .column-bounds .0, timing-byte 8), omega (arith, law .column-bounds .1, timing-byte 8, timing-byte 9));
+        rank-gap =
+            λ eleven.
+            let four = ranked eleven in
+            let least : 1 ≤ rankGapOf s = ⊎-elim (λ one. absurd (not-suc-le-zero {n = 0} (omega (arith, one .0, four .0)))) (λ more. more .1) (law .ranks-are) in
+            stands 10 (omega (arith, least, four .1), omega (arith, law .rank-bound, four .1));
       }
     where
       stands : (k : ℕ) → (1 ≤ byte s (word s 12 + k)) × (byte s (word s 12 + k) ≤ byte s (word s 12 + 1)) → Between 1 (byte s (18 + 3 * byte s 16 + k)) (byte s (18 + 3 * byte s 16 + 1))
@@ -296,10 +310,11 @@ module _ (s : List ℕ) (given : Bytes s) (f : Form s) (l : Lengths s) where
       gap law (suc (suc (suc (suc (suc (suc (suc zero))))))) a b = stands 7 (law .bank-bounds 1 (lit< tt))
       gap law (suc (suc (suc (suc (suc (suc (suc (suc k)))))))) a b = absurd (not-suc-le-zero {n = k} (omega arith))
 
-  timing-tested : SoundTiming (λ k. byte s (18 + 3 * byte s 16 + k)) → timingSound (timingOf s) ≡ true
-  unfolding timingSound timingOf gapsWithin bankWithin start
+  timing-tested : SoundTiming (word s 14) (λ k. byte s (18 + 3 * byte s 16 + k)) → timingSound (timingOf s) ≡ true
+  unfolding timingSound timingOf gapsWithin bankWithin rankWithin start
   timing-tested t =
       and-both
+      (and-both
       (and-both
       (and-both
       (and-both
@@ -318,8 +333,25 @@ module _ (s : List ℕ) (given : Bytes s) (f : Form s) (l : Lengths s) where
       (record {
         at-least = omega (arith, t .column-delay .0, timing-byte 8);
         at-most = omega (arith, t .column-delay .1, timing-byte 8, timing-byte 9);
-      }))
+      })))
+      ranks
     where
+      ranks : rankWithin (ranksOf s) (rankGapOf s) (byte s (word s 12 + 1)) ≡ true
+      ranks =
+          ⊎-elim
+          (λ ten.
+          let one = unranked ten in
+          or-left (eqb (ranksOf s) 1 && eqb (rankGapOf s) 0) _ (and-both (eq-eqb (ranksOf s) 1 (one .0)) (eq-eqb (rankGapOf s) 0 (one .1))))
+          (λ more.
+          let eleven : word s 14 ≡ 11 = omega (arith, more, l .timing-size .at-most) in
+          let four = ranked eleven in
+          let g = t .rank-gap eleven in
+          or-right (eqb (ranksOf s) 1 && eqb (rankGapOf s) 0) _
+          (and-both (eq-eqb (ranksOf s) 4 (four .0))
+          (between-tested 1 (rankGapOf s) (byte s (word s 12 + 1))
+          (record { at-least = omega (arith, g .at-least, timing-byte 10, four .1); at-most = omega (arith, g .at-most, timing-byte 10, timing-byte 1, four .1) }))))
+          (lt-or-ge (word s 14) 11)
+
       gap : (k : ℕ) → 2 ≤ k → k ≤ 7 → within 1 (byte s (word s 12 + k)) (byte s (word s 12 + 1)) ≡ true
       gap k a b =
           let g = t .gaps k a b in
@@ -384,6 +416,7 @@ held-numbers s fails =
       row = λ i. word s (17 + 2 * i);
       epoch = byte s (17 + 2 * byte s 16);
       minimum = λ i. byte s (18 + 2 * byte s 16 + i);
+      size = word s 14;
       timing = λ k. byte s (18 + 3 * byte s 16 + k);
       encoded =
           record {
@@ -399,9 +432,10 @@ held-numbers s fails =
                 record {
                   kind-is = form .kinds .2;
                   start-is = omega (arith, form .third-start, form .second-start, sizes .order-size, sizes .turns-size);
-                  size-is = sizes .timing-size;
+                  size-is = refl;
                 };
-            whole = omega (arith, form .end, form .third-start, form .second-start, sizes .order-size, sizes .turns-size, sizes .timing-size);
+            timing-size = sizes .timing-size;
+            whole = omega (arith, form .end, form .third-start, form .second-start, sizes .order-size, sizes .turns-size);
             class-count = refl;
             rows = λ i l. refl;
             epoch-byte = refl;
@@ -437,7 +471,7 @@ module _ (s : List ℕ) (h : Encoded s) where
       let e = h .encoded in
       let few = h .sound .count-bounds in
       record {
-        length-bounds = record { at-least = omega (arith, e .whole, few .at-least); at-most = omega (arith, e .whole, few .at-most) };
+        length-bounds = record { at-least = omega (arith, e .whole, few .at-least); at-most = omega (arith, e .whole, few .at-most, e .timing-size .at-most) };
         entries = e .entries;
         kinds = (e .order-entry .kind-is, e .turns-entry .kind-is, e .timing-entry .kind-is);
         first-start = e .order-entry .start-is;
@@ -454,7 +488,7 @@ module _ (s : List ℕ) (h : Encoded s) where
         count-bounds = record { at-least = omega (arith, few .at-least, e .class-count); at-most = omega (arith, few .at-most, e .class-count) };
         order-size = omega (arith, e .order-entry .size-is, e .class-count);
         turns-size = omega (arith, e .turns-entry .size-is, e .class-count);
-        timing-size = e .timing-entry .size-is;
+        timing-size = rw (e .timing-entry .size-is) (e .timing-size);
       }
 
   rows-hold : Rows s
@@ -479,11 +513,12 @@ module _ (s : List ℕ) (h : Encoded s) where
         sum-bound = rw (h .encoded .epoch-byte, sum-same (λ i. byte s (18 + 2 * h .n + i)) (h .minimum) (h .n) (h .encoded .minimums)) (t .sum-bound);
       })
 
-  timing-holds : SoundTiming (λ k. byte s (18 + 3 * byte s 16 + k))
+  timing-holds : SoundTiming (word s 14) (λ k. byte s (18 + 3 * byte s 16 + k))
   timing-holds =
       let t = h .sound .timing-sound in
-      let at = h .encoded .timing-bytes in
-      subst (λ (m : ℕ). SoundTiming (λ k. byte s (18 + 3 * m + k))) (sym count-is)
+      let eleven : word s 14 ≡ h .size = h .encoded .timing-entry .size-is in
+      let at : (k : ℕ) → k < 10 → byte s (18 + 3 * h .n + k) ≡ h .timing k = λ k below. h .encoded .timing-bytes k (lt-of-lt-of-le below (h .encoded .timing-size .at-least)) in
+      subst (λ (m : ℕ). SoundTiming (word s 14) (λ k. byte s (18 + 3 * m + k))) (sym count-is)
       (record {
         turn-length = rw (at 0 (lit< tt)) (t .turn-length);
         dead-time = rw (at 1 (lit< tt)) (t .dead-time);
@@ -499,6 +534,12 @@ module _ (s : List ℕ) (h : Encoded s) where
               at-most = omega (arith, at 9 (lit< tt), at 1 (lit< tt), t .answer-delay .at-most);
             };
         column-delay = (omega (arith, at 8 (lit< tt), t .column-delay .0), omega (arith, at 8 (lit< tt), at 9 (lit< tt), t .column-delay .1));
+        rank-gap =
+            λ e.
+            let size : h .size ≡ 11 = sym eleven ∙ e in
+            let g = t .rank-gap size in
+            let last = h .encoded .timing-bytes 10 (omega (arith, size)) in
+            record { at-least = omega (arith, last, g .at-least); at-most = omega (arith, last, at 1 (lit< tt), g .at-most) };
       })
 
   least-holds : (i : ℕ) × (isClassIn (byte s 16) i ≡ true) × Least (isClassIn (byte s 16)) (fileOrder s) i
@@ -546,14 +587,36 @@ module _ (s : List ℕ) (h : Encoded s) where
       (λ b. rw (le-ltb i (h .n) b))
       (lt-or-ge i (h .n)))
 
-  timing-number : (k : ℕ) → k < 10 → byte s (start s 2 + k) ≡ h .timing k
+  timing-number : (k : ℕ) → k < h .size → byte s (start s 2 + k) ≡ h .timing k
   unfolding start
   timing-number k l = ap (λ (at : ℕ). byte s (at + k)) (h .encoded .timing-entry .start-is) ∙ h .encoded .timing-bytes k l
 
-  timing-first : byte s (start s 2) ≡ h .timing 0
-  timing-first = let at : start s 2 ≡ start s 2 + 0 = omega arith in ap (byte s) at ∙ timing-number 0 (lit< tt)
+  -- the first ten numbers, whatever the size
+  timing-tenth : (k : ℕ) → k < 10 → byte s (start s 2 + k) ≡ h .timing k
+  timing-tenth k l = timing-number k (lt-of-lt-of-le l (h .encoded .timing-size .at-least))
 
-  held-is : held s ≡ policyOf (h .n) (h .row) (h .epoch) (h .minimum) (h .timing)
+  timing-first : byte s (start s 2) ≡ h .timing 0
+  timing-first = let at : start s 2 ≡ start s 2 + 0 = omega arith in ap (byte s) at ∙ timing-tenth 0 (lit< tt)
+
+  -- and those of the ranks
+  size-is : bodySize s 2 ≡ h .size
+  unfolding bodySize
+  size-is = h .encoded .timing-entry .size-is
+
+  ranks-are : ranksOf s ≡ cond (eqb (h .size) 11) 4 1
+  unfolding ranksOf
+  ranks-are = ap (λ (k : ℕ). cond (eqb k 11) 4 1) size-is
+
+  rank-is : rankGapOf s ≡ cond (eqb (h .size) 11) (h .timing 10) 0
+  unfolding rankGapOf
+  rank-is =
+      ap (λ (k : ℕ). cond (eqb k 11) (byte s (start s 2 + 10)) 0) size-is
+      ∙ ⊎-elim
+      (λ eleven. rw eleven (timing-number 10 (omega (arith, eqb-true (h .size) 11 eleven))))
+      (λ ten. rw ten)
+      (either (eqb (h .size) 11))
+
+  held-is : held s ≡ policyOf (h .n) (h .row) (h .epoch) (h .minimum) (h .size) (h .timing)
   unfolding held policyOf classCount epochOf timingOf
   held-is =
       let e : byte s (start s 1) ≡ h .epoch = ap (byte s) turns-start ∙ h .encoded .epoch-byte in
@@ -566,11 +629,13 @@ module _ (s : List ℕ) (h : Encoded s) where
         timing =
             record {
               turn = timing-first i;
-              dead = timing-number 1 (lit< tt) i;
-              gaps = timing-number 2 (lit< tt) i ∷ timing-number 3 (lit< tt) i ∷ timing-number 4 (lit< tt) i ∷ timing-number 5 (lit< tt) i ∷ [];
-              bank = timing-number 6 (lit< tt) i ∷ timing-number 7 (lit< tt) i ∷ [];
-              column = timing-number 8 (lit< tt) i;
-              response = timing-number 9 (lit< tt) i;
+              dead = timing-tenth 1 (lit< tt) i;
+              gaps = timing-tenth 2 (lit< tt) i ∷ timing-tenth 3 (lit< tt) i ∷ timing-tenth 4 (lit< tt) i ∷ timing-tenth 5 (lit< tt) i ∷ [];
+              bank = timing-tenth 6 (lit< tt) i ∷ timing-tenth 7 (lit< tt) i ∷ [];
+              column = timing-tenth 8 (lit< tt) i;
+              response = timing-tenth 9 (lit< tt) i;
+              ranks = ranks-are i;
+              rank = rank-is i;
             };
         covers = listOf 16 (coverSet (rows-are i));
         caps = listOf 16 (capIn (count-is i) (rows-are i) (e i) (minimums-are i));

@@ -54,13 +54,13 @@ contentsFit s = within 17 (length s) 65535 && kindsFit s && bodiesAbut s
 unfoldable pub classCount : List ℕ → ℕ
 classCount s = byte s 16
 
--- 2: "n not 1 to 16, or a body's length does not fit it"
+-- 2: "n not 1 to 16, or a body's length does not fit it". W-206: "The timing body may have an eleventh byte".
 unfoldable pub lengthsFit : List ℕ → Bool
 lengthsFit s =
     within 1 (classCount s) 16
     && eqb (bodySize s 0) (1 + 2 * classCount s)
     && eqb (bodySize s 1) (1 + classCount s)
-    && eqb (bodySize s 2) 10
+    && within 10 (bodySize s 2) 11
 
 -- row i; the file has n, and where it has none it is 0
 unfoldable pub rowAt : List ℕ → ℕ → ℕ
@@ -72,6 +72,13 @@ epochOf s = byte s (start s 1)
 
 unfoldable pub minimumAt : List ℕ → ℕ → ℕ
 minimumAt s i = cond (ltb i (classCount s)) (byte s (start s 1 + 1 + i)) 0
+
+-- W-206: with "an eleventh byte, the rank gap" in the timing body, there are "four ranks"; without it there is one, and no gap between ranks
+unfoldable pub ranksOf : List ℕ → ℕ
+ranksOf s = cond (eqb (bodySize s 2) 11) 4 1
+
+unfoldable pub rankGapOf : List ℕ → ℕ
+rankGapOf s = cond (eqb (bodySize s 2) 11) (byte s (start s 2 + 10)) 0
 
 -- "Timing, 10 bytes: turn length; dead time; gaps read-read, read-write, write-read, write-write ..; same-bank gap after a read, after a write; column delay;
 -- answer delay."
@@ -85,6 +92,8 @@ timingOf s =
       bank = byte s (t + 6) ∷ byte s (t + 7) ∷ [];
       column = byte s (t + 8);
       response = byte s (t + 9);
+      ranks = ranksOf s;
+      rank = rankGapOf s;
     }
 
 -- the policy that the bodies hold, with its covers and caps
@@ -111,7 +120,7 @@ noPolicy =
       rows = zeros;
       epoch = 0;
       minimums = zeros;
-      timing = record { turn = 0; dead = 0; gaps = replicate 4 0; bank = replicate 2 0; column = 0; response = 0 };
+      timing = record { turn = 0; dead = 0; gaps = replicate 4 0; bank = replicate 2 0; column = 0; response = 0; ranks = 0; rank = 0 };
       covers = zeros;
       caps = zeros;
     }

@@ -5,7 +5,7 @@ use mathlib.Core.Logic.{_↔_}
 use mathlib.Core.Bool.{Bool, true, cond}
 use mathlib.Core.List.{List, [], _∷_}
 use Prim.Native.Nat.{ℕ, suc, _+_, _*_, _≤_, _<_}
-use lib.Dec.{ltb}
+use lib.Dec.{ltb, eqb}
 use lib.ListN.{length}
 use Rattle.basics.specs.Below.{sum, listOf}
 use Rattle.masks.specs.Mask.{member}
@@ -33,21 +33,23 @@ pub record SoundTurns (n epoch : ℕ) (minimum : ℕ → ℕ) : Type 0 where
   pub sum-bound : sum n minimum ≤ epoch
 
 -- "Turn length 2 to 255, dead time 2 to 31 and below the turn length, each gap 1 to the dead time, answer delay 2 to the dead time, column delay 1 to the answer
--- delay less 1." The numbers by their place in the body: 0 turn length, 1 dead time, 2 to 7 gaps, 8 column delay, 9 answer delay.
-pub record SoundTiming (t : ℕ → ℕ) : Type 0 where
+-- delay less 1." The numbers by their place in the body: 0 turn length, 1 dead time, 2 to 7 gaps, 8 column delay, 9 answer delay. W-206: "an eleventh byte, the rank gap
+-- (1 to the dead time)", where the body has so many.
+pub record SoundTiming (size : ℕ) (t : ℕ → ℕ) : Type 0 where
   pub turn-length : Between 2 (t 0) 255
   pub dead-time : Between 2 (t 1) 31
   pub dead-below-turn : t 1 < t 0
   pub gaps : (k : ℕ) → 2 ≤ k → k ≤ 7 → Between 1 (t k) (t 1)
   pub answer-delay : Between 2 (t 9) (t 1)
   pub column-delay : (1 ≤ t 8) × (t 8 < t 9)
+  pub rank-gap : size ≡ 11 → Between 1 (t 10) (t 1)
 
 -- bit j of row i is set
 abbrev pub bits : (ℕ → ℕ) → ℕ → ℕ → Bool
 bits row i j = member (row i) j
 
 -- "The order must be reflexive, antisymmetric and transitive with a least class", sound turns and timing, for 1 to 16 classes, and no bit at n or above
-pub record Sound (n : ℕ) (row : ℕ → ℕ) (epoch : ℕ) (minimum timing : ℕ → ℕ) : Type 0 where
+pub record Sound (n : ℕ) (row : ℕ → ℕ) (epoch : ℕ) (minimum : ℕ → ℕ) (size : ℕ) (timing : ℕ → ℕ) : Type 0 where
   pub count-bounds : Between 1 n 16
   pub no-other-bit : (i j : ℕ) → isClassIn n i ≡ true → bits row i j ≡ true → isClassIn n j ≡ true
   pub reflexive : Reflexive (isClassIn n) (bits row)
@@ -55,7 +57,7 @@ pub record Sound (n : ℕ) (row : ℕ → ℕ) (epoch : ℕ) (minimum timing : �
   pub transitive : Transitive (isClassIn n) (bits row)
   pub lowest : (i : ℕ) × (isClassIn n i ≡ true) × Least (isClassIn n) (bits row) i
   pub turns : SoundTurns n epoch minimum
-  pub timing-sound : SoundTiming timing
+  pub timing-sound : SoundTiming size timing
 
 -- ---- what the bytes have to be
 
@@ -65,22 +67,24 @@ pub record Entry (s : List ℕ) (at kind start size : ℕ) : Type 0 where
   pub start-is : word s (at + 1) ≡ start
   pub size-is : word s (at + 3) ≡ size
 
--- the file holds these numbers: "Byte 0 is 3. Then three entries ..", the order body from byte 16 on, the turns body after it, the timing body after that, and no more
-pub record Encodes (s : List ℕ) (n : ℕ) (row : ℕ → ℕ) (epoch : ℕ) (minimum timing : ℕ → ℕ) : Type 0 where
+-- the file holds these numbers: "Byte 0 is 3. Then three entries ..", the order body from byte 16 on, the turns body after it, the timing body after that, of ten
+-- bytes or, by W-206, eleven, and no more
+pub record Encodes (s : List ℕ) (n : ℕ) (row : ℕ → ℕ) (epoch : ℕ) (minimum : ℕ → ℕ) (size : ℕ) (timing : ℕ → ℕ) : Type 0 where
   pub entries : byte s 0 ≡ 3
   pub order-entry : Entry s 1 1 16 (1 + 2 * n)
   pub turns-entry : Entry s 6 2 (17 + 2 * n) (1 + n)
-  pub timing-entry : Entry s 11 3 (18 + 3 * n) 10
-  pub whole : length s ≡ 28 + 3 * n
+  pub timing-entry : Entry s 11 3 (18 + 3 * n) size
+  pub timing-size : Between 10 size 11
+  pub whole : length s ≡ 18 + 3 * n + size
   pub class-count : byte s 16 ≡ n
   pub rows : (i : ℕ) → i < n → word s (17 + 2 * i) ≡ row i
   pub epoch-byte : byte s (17 + 2 * n) ≡ epoch
   pub minimums : (i : ℕ) → i < n → byte s (18 + 2 * n + i) ≡ minimum i
-  pub timing-bytes : (k : ℕ) → k < 10 → byte s (18 + 3 * n + k) ≡ timing k
+  pub timing-bytes : (k : ℕ) → k < size → byte s (18 + 3 * n + k) ≡ timing k
 
 -- the policy of these numbers, as it is handed back
-unfoldable pub policyOf : ℕ → (ℕ → ℕ) → ℕ → (ℕ → ℕ) → (ℕ → ℕ) → Policy
-policyOf n row epoch minimum timing =
+unfoldable pub policyOf : ℕ → (ℕ → ℕ) → ℕ → (ℕ → ℕ) → ℕ → (ℕ → ℕ) → Policy
+policyOf n row epoch minimum size timing =
     let rows = listOf 16 (λ i. cond (ltb i n) (row i) 0) in
     let minimums = listOf 16 (λ i. cond (ltb i n) (minimum i) 0) in
     record {
@@ -96,6 +100,8 @@ policyOf n row epoch minimum timing =
             bank = timing 6 ∷ timing 7 ∷ [];
             column = timing 8;
             response = timing 9;
+            ranks = cond (eqb size 11) 4 1;
+            rank = cond (eqb size 11) (timing 10) 0;
           };
       covers = listOf 16 (coverSet rows);
       caps = listOf 16 (capIn n rows epoch minimums);
@@ -108,15 +114,16 @@ pub record Encoded (s : List ℕ) : Type 0 where
   pub row : ℕ → ℕ
   pub epoch : ℕ
   pub minimum : ℕ → ℕ
+  pub size : ℕ
   pub timing : ℕ → ℕ
-  pub encoded : Encodes s n row epoch minimum timing
-  pub sound : Sound n row epoch minimum timing
+  pub encoded : Encodes s n row epoch minimum size timing
+  pub sound : Sound n row epoch minimum size timing
 
 pub record TakenIff (s : List ℕ) : Type 0 where
   -- status 0 exactly if the file encodes sound numbers
   pub taken : (readFile s .status ≡ 0) ↔ Encoded s
   -- and then the policy is the one of those numbers
-  pub policy-is : (h : Encoded s) → readFile s .policy ≡ policyOf (h .n) (h .row) (h .epoch) (h .minimum) (h .timing)
+  pub policy-is : (h : Encoded s) → readFile s .policy ≡ policyOf (h .n) (h .row) (h .epoch) (h .minimum) (h .size) (h .timing)
   -- "A policy is accepted if a fresh state asked of it does not get 13; each whose file gets none of 1 to 8 is."
   pub in-range : readFile s .status ≡ 0 → inRange (readFile s .policy) ≡ true
 
@@ -137,7 +144,7 @@ pub record Lengths (s : List ℕ) : Type 0 where
   pub count-bounds : Between 1 (byte s 16) 16
   pub order-size : word s 4 ≡ 1 + 2 * byte s 16
   pub turns-size : word s 9 ≡ 1 + byte s 16
-  pub timing-size : word s 14 ≡ 10
+  pub timing-size : Between 10 (word s 14) 11
 
 -- the order that the file's rows give
 abbrev pub fileOrder : List ℕ → ℕ → ℕ → Bool
@@ -159,7 +166,7 @@ conditions s =
     ∷ Transitive (isClassIn n) (fileOrder s)
     ∷ ((i : ℕ) × (isClassIn n i ≡ true) × Least (isClassIn n) (fileOrder s) i)
     ∷ SoundTurns n (byte s (17 + 2 * n)) (λ i. byte s (18 + 2 * n + i))
-    ∷ SoundTiming (λ k. byte s (18 + 3 * n + k))
+    ∷ SoundTiming (word s 14) (λ k. byte s (18 + 3 * n + k))
     ∷ []
 
 -- the first condition that fails has the number m, where the first of all has the number k; m is 0 where none fails

@@ -2,7 +2,7 @@
 
 ghost use mathlib.Core.Path.{_≡_};
 ghost use Prim.Native.Nat.{_<_};
-ghost use Rattle.file.specs.File.{byte, word, start, bodySize, kindsFit, bodiesAbut, contentsFit, lengthsFit, rowAt, minimumAt, timingOf, held, noPolicy, refusedWith, readFile};
+ghost use Rattle.file.specs.File.{byte, word, start, bodySize, kindsFit, bodiesAbut, contentsFit, lengthsFit, rowAt, minimumAt, ranksOf, rankGapOf, timingOf, held, noPolicy, refusedWith, readFile};
 ghost use Rattle.basics.specs.Below.{listOf};
 ghost use Rattle.order.specs.Order.{coverSet};
 ghost use Rattle.turns.specs.Turns.{capIn};
@@ -92,7 +92,7 @@ fn lengths_fit(s: &[u8]) -> bool
         & (n <= 16)
         & (body_size(s, 0) as usize == 1 + 2 * n)
         & (body_size(s, 1) as usize == 1 + n)
-        & (body_size(s, 2) == 10)
+        & ((10 <= body_size(s, 2)) & (body_size(s, 2) <= 11))
 }
 
 fn row_at(s: &[u8], i: usize) -> u16
@@ -141,6 +141,23 @@ fn minimums_of(s: &[u8]) -> [u32; 16]
     minimums
 }
 
+// The timing body has an eleventh byte: four ranks, and the gap between them. Without it there is one rank.
+fn ranks_of(s: &[u8]) -> u32
+    ensures { λ r. ⌜ r ≡ ranksOf (now (s .entry)) ⌝ }
+{
+    if body_size(s, 2) == 11 { 4 } else { 1 }
+}
+
+fn rank_gap_of(s: &[u8]) -> u32
+    ensures { λ r. ⌜ r ≡ rankGapOf (now (s .entry)) ⌝ }
+{
+    if body_size(s, 2) == 11 {
+        number(s, start(s, 2) as usize + 10)
+    } else {
+        0
+    }
+}
+
 fn timing_of(s: &[u8]) -> Timing
     ensures { λ r. ⌜ r ≡ timingOf (now (s .entry)) ⌝ }
 {
@@ -157,6 +174,8 @@ fn timing_of(s: &[u8]) -> Timing
         bank: [number(s, at + 6), number(s, at + 7)],
         column: number(s, at + 8),
         response: number(s, at + 9),
+        ranks: ranks_of(s),
+        rank: rank_gap_of(s),
     }
 }
 
@@ -222,6 +241,8 @@ fn no_policy() -> Policy
             bank: [0u32; 2],
             column: 0,
             response: 0,
+            ranks: 0,
+            rank: 0,
         },
         covers: [0u16; 16],
         caps: [0u32; 16],

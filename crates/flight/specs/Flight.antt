@@ -6,7 +6,7 @@ use lib.Dec.{leb, ltb, eqb}
 use lib.ListN.{getD, set}
 use Rattle.basics.specs.Below.{every}
 use Rattle.timing.specs.declared.Timing.{Timing}
-use Rattle.requests.specs.Sizes.{pendingPlaces, bankCount}
+use Rattle.requests.specs.Sizes.{pendingPlaces, bankPlaces}
 use Rattle.requests.specs.Word.{soundWord}
 use Rattle.flight.specs.declared.Flight.{Flight}
 
@@ -22,32 +22,35 @@ dueAt pending t = getD pending (t % pendingPlaces) 0
 unfoldable pub sentAt : List ℕ → ℕ → List ℕ
 sentAt pending t = set pending (t % pendingPlaces) 0
 
--- how a last activate is stored: twice one more than its cycle, plus its kind; 0 is none
-unfoldable pub activateAt : ℕ → ℕ → ℕ
-activateAt t kind = 2 * (t + 1) + kind
+-- how a last activate is stored: 16 times one more than its cycle, plus four times its rank (W-206), plus its kind; 0 is none
+unfoldable pub activateAt : ℕ → ℕ → ℕ → ℕ
+activateAt t rank kind = 16 * (t + 1) + 4 * rank + kind
 
--- one more than the cycle of a stored last activate, and its kind
+-- one more than the cycle of a stored last activate, its rank and its kind
 unfoldable pub activateNext : ℕ → ℕ
-activateNext last = last / 2
+activateNext last = last / 16
+
+unfoldable pub activateRank : ℕ → ℕ
+activateRank last = last / 4 % 4
 
 unfoldable pub activateKind : ℕ → ℕ
 activateKind last = last % 2
 
 -- ---- in range: "Out of range in 13 means", clause by clause
 
--- "a last activate not before the cycle". A stored 1 is no activate and not none: refused.
+-- "a last activate not before the cycle". A stored 1 to 15 is no activate and not none: refused.
 unfoldable pub activateInRange : ℕ → ℕ → Bool
 activateInRange t last = eqb last 0 || leb 1 (activateNext last) && leb (activateNext last) t
 
 -- what is pending: at d cycles after the next tick "an in-flight request that 9 or 10 would refuse"; "its delay or more after it" there is none.
 -- "due before the next tick" and "two .. due in one cycle" cannot be stored.
-unfoldable pub pendingInRange : ℕ → ℕ → ℕ → List ℕ → Bool
-pendingInRange n t delay pending =
-    every pendingPlaces (λ d. eqb (dueAt pending (t + d)) 0 || ltb d delay && soundWord n (dueAt pending (t + d)))
+unfoldable pub pendingInRange : ℕ → ℕ → ℕ → ℕ → List ℕ → Bool
+pendingInRange n ranks t delay pending =
+    every pendingPlaces (λ d. eqb (dueAt pending (t + d)) 0 || ltb d delay && soundWord n ranks (dueAt pending (t + d)))
 
 unfoldable pub flightInRange : ℕ → Timing → ℕ → Flight → Bool
 flightInRange n timing t f =
     activateInRange t (f .last)
-    && every bankCount (λ b. activateInRange t (getD (f .banks) b 0))
-    && pendingInRange n t (timing .column) (f .columns)
-    && pendingInRange n t (timing .response) (f .responses)
+    && every bankPlaces (λ b. activateInRange t (getD (f .banks) b 0))
+    && pendingInRange n (timing .ranks) t (timing .column) (f .columns)
+    && pendingInRange n (timing .ranks) t (timing .response) (f .responses)

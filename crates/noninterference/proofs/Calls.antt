@@ -48,13 +48,13 @@ module _ (p : Policy) (given : policyInRange p ≡ true) (low : ℕ → Bool) (c
     unfolding offerOn
     both-offer o i =
         subst (λ (x : Offered). Alike p low (x .state) (offer p r o .state)) (sym (offer-is p s (h .ranges) o))
-        (subst (λ (x : Offered). Alike p low (offerOn s o .state) (x .state)) (sym (offer-is p r (g .ranges) o))
+        (subst (λ (x : Offered). Alike p low (offerOn (p .timing .ranks) s o .state) (x .state)) (sym (offer-is p r (g .ranges) o))
         (record {
           cycles = alike .cycles;
           queues =
-              subst (λ (n : ℕ). QueuesAgree low (queuesAfter n (s .queues) o) (queuesAfter (r .classes) (r .queues) o)) count-s
-              (subst (λ (n : ℕ). QueuesAgree low (queuesAfter (p .classes) (s .queues) o) (queuesAfter n (r .queues) o)) count-r
-              (offer-agrees (p .classes) few low (s .queues) (r .queues) o (ranged p s (h .ranges) .queues) (ranged p r (g .ranges) .queues) (alike .queues) i));
+              subst (λ (n : ℕ). QueuesAgree low (queuesAfter n (p .timing .ranks) (s .queues) o) (queuesAfter (r .classes) (p .timing .ranks) (r .queues) o)) count-s
+              (subst (λ (n : ℕ). QueuesAgree low (queuesAfter (p .classes) (p .timing .ranks) (s .queues) o) (queuesAfter n (p .timing .ranks) (r .queues) o)) count-r
+              (offer-agrees (p .classes) (p .timing .ranks) few low (s .queues) (r .queues) o (ranged p s (h .ranges) .queues) (ranged p r (g .ranges) .queues) (alike .queues) i));
           turns = alike .turns;
           columns = alike .columns;
           responses = alike .responses;
@@ -69,7 +69,7 @@ module _ (p : Policy) (given : policyInRange p ≡ true) (low : ℕ → Bool) (c
         subst (λ (x : Offered). Alike p low (x .state) r) (sym (offer-is p s (h .ranges) o))
         (record {
           cycles = alike .cycles;
-          queues = λ c i. queue-through (offer-unseen (s .classes) (subst SmallClasses count-s few) low (s .queues) o high c i) (alike .queues c i);
+          queues = λ c i. queue-through (offer-unseen (s .classes) (p .timing .ranks) (subst SmallClasses count-s few) low (s .queues) o high c i) (alike .queues c i);
           turns = alike .turns;
           columns = alike .columns;
           responses = alike .responses;
@@ -96,9 +96,9 @@ module _ (p : Policy) (given : policyInRange p ≡ true) (low : ℕ → Bool) (c
     unfolding offerOn
     offer-line o i =
         ap (λ (x : Offered). x .status) (offer-is p s (h .ranges) o)
-        ∙ ap (λ (n : ℕ). offerStatus n (s .queues .lengths) o) (sym count-s)
-        ∙ same-status (p .classes) few low (s .queues) (r .queues) o (alike .queues) i
-        ∙ ap (λ (n : ℕ). offerStatus n (r .queues .lengths) o) count-r
+        ∙ ap (λ (n : ℕ). offerStatus n (p .timing .ranks) (s .queues .lengths) o) (sym count-s)
+        ∙ same-status (p .classes) (p .timing .ranks) few low (s .queues) (r .queues) o (alike .queues) i
+        ∙ ap (λ (n : ℕ). offerStatus n (p .timing .ranks) (r .queues .lengths) o) count-r
         ∙ sym (ap (λ (x : Offered). x .status) (offer-is p r (g .ranges) o))
 
     -- a tick's line as it is seen

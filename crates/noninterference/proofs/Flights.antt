@@ -3,19 +3,18 @@
 -- Assumes nothing.
 use mathlib.Core.Path.{_≡_, refl, sym, ap, ap₂, _∙_}
 use mathlib.Core.Logic.{⊎-elim}
-use mathlib.Core.Bool.{Bool, _&&_}
+use mathlib.Core.Bool.{Bool, true, _&&_}
 use mathlib.Core.List.{List}
-use Prim.Native.Nat.{ℕ, _+_, _*_, _≤_, _<_}
-use native.Mathlib.Omega.{arith}
+use Prim.Native.Nat.{ℕ, _<_}
 use lib.ListN.{length, getD, set}
 use Rattle.policy.specs.Laws.{TimingLaws}
 use Rattle.timing.specs.declared.Timing.{Timing}
 use Rattle.basics.proofs.Stores.{stored-at, stored-in-both}
-use Rattle.requests.specs.Word.{kindOf, bankOf}
-use Rattle.rules.specs.Wire.{gapMet, gapsMetBy, gapsMet}
-use Rattle.flight.specs.Flight.{activateKind}
+use Rattle.requests.specs.Word.{rankOf, kindOf, bankOf, bankPlace}
+use Rattle.rules.specs.Wire.{gapMet, kindGap, bankGap, rankGapMet, gapsMetBy, gapsMet}
 use Rattle.flight.specs.declared.Flight.{Flight}
-use Rattle.rules.proofs.Wire.{gap-shift, kind-small}
+use Rattle.rules.proofs.Wire.{kind-rested, rank-rested, bank-rested}
+use Rattle.requests.proofs.Word.{place-small}
 use Rattle.extract.specs.Extract.{hideWord}
 use Rattle.noninterference.proofs.Low.{PendingAgree, LastAgree, LastsAgree}
 
@@ -33,17 +32,17 @@ stored-unseen low xs k x l e i =
 
 -- ---- gaps
 
--- a gap that goes by the last activate, and is none longer than the dead time, is met in both runs or in neither
-same-gap : (gap : ℕ → ℕ) (dead t x y : ℕ) → ((z : ℕ) → gap z ≤ dead) → LastAgree dead t x y → gapMet x (gap x) t ≡ gapMet y (gap y) t
-same-gap gap dead t x y short h =
-    ⊎-elim
-    (λ e. ap (λ (z : ℕ). gapMet z (gap z) t) e)
-    (λ old. gap-shift x dead (gap x) t t (omega (arith, short x)) (old .0) ∙ sym (gap-shift y dead (gap y) t t (omega (arith, short y)) (old .1)))
-    h
+-- what goes by a last activate and holds where that is at least the dead time old, holds in both runs or in neither
+same-met : (met : ℕ → Bool) (dead t x y : ℕ) → ((z : ℕ) → gapMet z dead t ≡ true → met z ≡ true) → LastAgree dead t x y → met x ≡ met y
+same-met met dead t x y old h = ⊎-elim (λ e. ap met e) (λ rest. old x (rest .0) ∙ sym (old y (rest .1))) h
 
+-- so it is with each gap, since none is longer than the dead time
 pub same-gaps : (timing : Timing) (t : ℕ) (f g : Flight) (w : ℕ) → TimingLaws timing → bankOf w < 8 → kindOf w < 2 → LastsAgree (timing .dead) t f g → gapsMet timing f w t ≡ gapsMet timing g w t
 unfolding gapsMet gapsMetBy
 same-gaps timing t f g w laws bank kind h =
+    let of-bank : Flight → ℕ = λ x. getD (x .banks) (bankPlace w) 0 in
     ap₂ _&&_
-    (same-gap (λ z. getD (timing .gaps) (2 * activateKind z + kindOf w) 0) (timing .dead) t (f .last) (g .last) (λ z. laws .gaps-bounds (2 * activateKind z + kindOf w) (omega (arith, kind, kind-small z)) .1) (h .of-all))
-    (same-gap (λ z. getD (timing .bank) (activateKind z) 0) (timing .dead) t (getD (f .banks) (bankOf w) 0) (getD (g .banks) (bankOf w) 0) (λ z. laws .bank-bounds (activateKind z) (kind-small z) .1) (h .of-bank (bankOf w) bank))
+    (ap₂ _&&_
+    (same-met (λ z. gapMet z (kindGap timing z (kindOf w)) t) (timing .dead) t (f .last) (g .last) (kind-rested timing laws t (kindOf w) kind) (h .of-all))
+    (same-met (λ z. rankGapMet timing z (rankOf w) t) (timing .dead) t (f .last) (g .last) (rank-rested timing laws t (rankOf w)) (h .of-all)))
+    (same-met (λ z. gapMet z (bankGap timing z) t) (timing .dead) t (of-bank f) (of-bank g) (bank-rested timing laws t) (h .of-bank (bankPlace w) (place-small w bank)))

@@ -9,7 +9,7 @@ use Prim.Native.Nat.{ℕ, _<_}
 use lib.ListN.{getD}
 use Rattle.policy.specs.Policy.{flows}
 use Rattle.policy.specs.declared.Policy.{Policy}
-use Rattle.requests.specs.Sizes.{bankCount}
+use Rattle.requests.specs.Sizes.{bankPlaces}
 use Rattle.queues.specs.Waiting.{passedOf, waiting}
 use Rattle.rules.specs.Wire.{gapMet}
 use Rattle.flight.specs.declared.Flight.{Flight}
@@ -68,4 +68,4 @@ LastAgree dead t x y = (x ≡ y) ⊎ ((gapMet x dead t ≡ true) × (gapMet y de
 -- of all, and of each bank
 pub record LastsAgree (dead t : ℕ) (f g : Flight) : Type 0 where
   pub of-all : LastAgree dead t (f .last) (g .last)
-  pub of-bank : (b : ℕ) → b < bankCount → LastAgree dead t (getD (f .banks) b 0) (getD (g .banks) b 0)
+  pub of-bank : (b : ℕ) → b < bankPlaces → LastAgree dead t (getD (f .banks) b 0) (getD (g .banks) b 0)

@@ -11,7 +11,7 @@ use Rattle.order.specs.Laws.{SmallClasses}
 use Rattle.basics.proofs.Truth.{either, not-both, on-true, on-false}
 use Rattle.basics.proofs.Below.{length-listOf}
 use Rattle.basics.proofs.Stores.{same-or-other}
-use Rattle.requests.specs.Word.{wordOf, classFits, bankAndKindFit}
+use Rattle.requests.specs.Word.{wordOf, classFits, bankKindRankFit}
 use Rattle.queues.specs.Waiting.{lengthOf, waitingAt, waiting}
 use Rattle.rules.specs.Queue.{enqueue, offerStatus, queuesAfter}
 use Rattle.requests.specs.declared.Request.{Request}
@@ -26,28 +26,28 @@ pub same-length : (q r : Queues) (c : ℕ) → waiting q c ≡ waiting r c → l
 unfolding waiting
 same-length q r c e = sym (length-listOf (waitingAt q c) (lengthOf q c)) ∙ ap length e ∙ length-listOf (waitingAt r c) (lengthOf r c)
 
-module _ (n : ℕ) (few : SmallClasses n) (low : ℕ → Bool) where
+module _ (n ranks : ℕ) (few : SmallClasses n) (low : ℕ → Bool) where
   -- the same status
-  pub same-status : (q r : Queues) (o : Request) → QueuesAgree low q r → low (o .class) ≡ true → offerStatus n (q .lengths) o ≡ offerStatus n (r .lengths) o
+  pub same-status : (q r : Queues) (o : Request) → QueuesAgree low q r → low (o .class) ≡ true → offerStatus n ranks (q .lengths) o ≡ offerStatus n ranks (r .lengths) o
   unfolding offerStatus lengthOf
-  same-status q r o h i = ap (λ (k : ℕ). cond (classFits n o) (cond (bankAndKindFit o) (cond (ltb k 8) 0 11) 10) 9) (same-length q r (o .class) (h (o .class) i .requests))
+  same-status q r o h i = ap (λ (k : ℕ). cond (classFits n o) (cond (bankKindRankFit ranks o) (cond (ltb k 8) 0 11) 10) 9) (same-length q r (o .class) (h (o .class) i .requests))
 
   -- a low offer keeps two runs' queues in agreement
-  pub offer-agrees : (q r : Queues) (o : Request) → QueuesRange n q → QueuesRange n r → QueuesAgree low q r → low (o .class) ≡ true → QueuesAgree low (queuesAfter n q o) (queuesAfter n r o)
+  pub offer-agrees : (q r : Queues) (o : Request) → QueuesRange n ranks q → QueuesRange n ranks r → QueuesAgree low q r → low (o .class) ≡ true → QueuesAgree low (queuesAfter n ranks q o) (queuesAfter n ranks r o)
   unfolding queuesAfter offerStatus
   offer-agrees q r o range-q range-r h i =
       let same = same-status q r o h i in
-      let goes-q = eqb (offerStatus n (q .lengths) o) 0 in
-      let goes-r = eqb (offerStatus n (r .lengths) o) 0 in
+      let goes-q = eqb (offerStatus n ranks (q .lengths) o) 0 in
+      let goes-r = eqb (offerStatus n ranks (r .lengths) o) 0 in
       let c = o .class in
       let w = wordOf o in
       ⊎-elim
       (λ e.
       let e-r = ap (λ (k : ℕ). eqb k 0) (sym same) ∙ e in
-      let fits-q = taken (classFits n o) (bankAndKindFit o) (ltb (getD (q .lengths) c 0) 8) e in
-      let fits-r = taken (classFits n o) (bankAndKindFit o) (ltb (getD (r .lengths) c 0) 8) e-r in
+      let fits-q = taken (classFits n o) (bankKindRankFit ranks o) (ltb (getD (q .lengths) c 0) 8) e in
+      let fits-r = taken (classFits n o) (bankKindRankFit ranks o) (ltb (getD (r .lengths) c 0) 8) e-r in
       let small = below-sixteen n o few (fits-q .0) in
-      subst (λ (x : Queues). QueuesAgree low x (queuesAfter n r o)) (sym (on-true goes-q (enqueue q c w) q e))
+      subst (λ (x : Queues). QueuesAgree low x (queuesAfter n ranks r o)) (sym (on-true goes-q (enqueue q c w) q e))
       (subst (QueuesAgree low (enqueue q c w)) (sym (on-true goes-r (enqueue r c w) r e-r))
       (λ d j.
       record {
@@ -61,15 +61,15 @@ module _ (n : ℕ) (few : SmallClasses n) (low : ℕ → Bool) where
       })))
       (λ e.
       let e-r = ap (λ (k : ℕ). eqb k 0) (sym same) ∙ e in
-      subst (λ (x : Queues). QueuesAgree low x (queuesAfter n r o)) (sym (on-false goes-q (enqueue q c w) q e))
+      subst (λ (x : Queues). QueuesAgree low x (queuesAfter n ranks r o)) (sym (on-false goes-q (enqueue q c w) q e))
       (subst (QueuesAgree low q) (sym (on-false goes-r (enqueue r c w) r e-r)) h))
       (either goes-q)
 
   -- a high offer is not seen
-  pub offer-unseen : (q : Queues) (o : Request) → low (o .class) ≡ false → QueuesAgree low (queuesAfter n q o) q
+  pub offer-unseen : (q : Queues) (o : Request) → low (o .class) ≡ false → QueuesAgree low (queuesAfter n ranks q o) q
   unfolding queuesAfter
   offer-unseen q o high =
-      let goes = eqb (offerStatus n (q .lengths) o) 0 in
+      let goes = eqb (offerStatus n ranks (q .lengths) o) 0 in
       ⊎-elim
       (λ e.
       subst (λ (x : Queues). QueuesAgree low x q) (sym (on-true goes (enqueue q (o .class) (wordOf o)) q e))

@@ -57,15 +57,15 @@ column-hidden low w some =
     (either (low (classOf w)))
 
 -- nothing is due any more where its delay has passed
-pub slot-free : (n t delay : ℕ) (pending : List ℕ) → delay < 32 → Each (Fits n delay) t pending → dueAt pending (t + delay) ≡ 0
-slot-free n t delay pending small h = ⊎-elim (λ z. z) (λ f. absurd (lt-irrefl delay (f .0))) (h delay small)
+pub slot-free : (n ranks t delay : ℕ) (pending : List ℕ) → delay < 32 → Each (Fits n ranks delay) t pending → dueAt pending (t + delay) ≡ 0
+slot-free n ranks t delay pending small h = ⊎-elim (λ z. z) (λ f. absurd (lt-irrefl delay (f .0))) (h delay small)
 
 module _ (low : ℕ → Bool) (n : ℕ) (b : Bus) (range : BusRange n b) (high : low (b .owner) ≡ false) where
   abbrev t : ℕ
   t = b .cycle
 
   going-hidden : canActivate b ≡ true → hideWord low (going b) ≡ 0
-  going-hidden e = hidden-high low (going b) (ap low (right-class n (b .owner) (going b) (going-right n b range (goes-waits n b range e))) ∙ high)
+  going-hidden e = hidden-high low (going b) (ap low (right-class n (b .timing .ranks) (b .owner) (going b) (going-right n b range (goes-waits n b range e))) ∙ high)
 
   pub quiet-queues : QueuesAgree low (drive b .queues) (b .queues)
   quiet-queues =
@@ -76,10 +76,10 @@ module _ (low : ℕ → Bool) (n : ℕ) (b : Bus) (range : BusRange n b) (high :
       (λ due stays c i. queue-self (b .queues) c)
 
   -- a high word that is stored is not seen
-  unseen : (pending : List ℕ) (delay : ℕ) → length pending ≡ 32 → delay < 32 → Each (Fits n delay) t pending → canActivate b ≡ true → PendingAgree low (set pending ((t + delay) % 32) (going b)) pending
+  unseen : (pending : List ℕ) (delay : ℕ) → length pending ≡ 32 → delay < 32 → Each (Fits n (b .timing .ranks) delay) t pending → canActivate b ≡ true → PendingAgree low (set pending ((t + delay) % 32) (going b)) pending
   unfolding dueAt
   unseen pending delay long under h e =
-      stored-unseen low pending ((t + delay) % 32) (going b) (inside pending long (t + delay)) (going-hidden e ∙ sym (ap (hideWord low) (slot-free n t delay pending under h) ∙ hidden-none low))
+      stored-unseen low pending ((t + delay) % 32) (going b) (inside pending long (t + delay)) (going-hidden e ∙ sym (ap (hideWord low) (slot-free n (b .timing .ranks) t delay pending under h) ∙ hidden-none low))
 
   -- where nothing is due, sending what is due changes nothing
   none-sent : (pending : List ℕ) → length pending ≡ 32 → dueAt pending t ≡ 0 → PendingAgree low (sentAt pending t) pending
@@ -114,5 +114,5 @@ module _ (low : ℕ → Bool) (n : ℕ) (b : Bus) (range : BusRange n b) (high :
       outcome b (λ d. hideWord low (commandNumber (d .wires)) ≡ columnShown (hideWord low due))
       (λ some. ap (λ (k : ℕ). hideWord low (columnNumber k)) (word-back due (due-offer n b range (eqb-false due 0 some))) ∙ column-hidden low due some)
       (λ none goes.
-      ap (hideWord low) (word-back (going b) (sound-offer n (going b) (going-sound n b range (goes-waits n b range goes)))) ∙ going-hidden goes ∙ nothing none)
+      ap (hideWord low) (word-back (going b) (sound-offer n (b .timing .ranks) (going b) (going-sound n b range (goes-waits n b range goes)))) ∙ going-hidden goes ∙ nothing none)
       (λ none stays. hidden-none low ∙ nothing none)

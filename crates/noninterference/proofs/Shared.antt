@@ -13,7 +13,7 @@ use Rattle.basics.proofs.Truth.{either}
 use Rattle.basics.proofs.Below.{first-same, getD-listOf}
 use Rattle.basics.proofs.Stores.{same-or-other, stored-in-both}
 use Rattle.requests.specs.Sizes.{mostPassed}
-use Rattle.requests.specs.Word.{kindOf, bankOf, requestOf}
+use Rattle.requests.specs.Word.{rankOf, kindOf, bankPlace, requestOf}
 use Rattle.queues.specs.Waiting.{lengthOf, waitingAt, waiting}
 use Rattle.flight.specs.Flight.{activateAt, sentAt}
 use Rattle.rules.specs.Queue.{passedAfter, dequeue}
@@ -22,6 +22,7 @@ use Rattle.rules.specs.Step.{Driven, Bus, dueColumn, mayGo, goesAt, going, canA
 use Rattle.requests.specs.declared.Wires.the-variants.{Activate, Column}
 use Rattle.queues.specs.declared.Queues.{Queues}
 use Rattle.flight.specs.declared.Flight.{Flight}
+use Rattle.requests.proofs.Word.{place-small}
 use Rattle.rules.proofs.Range.{sound-bank, sound-kind, BusRange, goes-waits, waiting-sound, going-sound}
 use Rattle.rules.proofs.Step.{drive-column, drive-nothing, drive-activate}
 use Rattle.rules.proofs.Queue.{dequeue-passed, dequeue-else-passed, dequeue-closes, dequeue-beside}
@@ -90,7 +91,7 @@ module _ (low : ℕ → Bool) (n : ℕ) (b : Bus) (r : Queues) (g : Flight) wher
         let w = waitingAt q owner k in
         let sound = waiting-sound n b one k some in
         ap₂ (λ (passed : ℕ) (met : Bool). (eqb k 0 || ltb passed mostPassed) && met) (queues owner is-low .passed)
-        (same-gaps (b .timing) t f g w (one .timed) (sound-bank n w sound) (sound-kind n w sound) lasts ∙ ap (λ (x : ℕ). gapsMet (b .timing) g x t) (same-word k some))
+        (same-gaps (b .timing) t f g w (one .timed) (sound-bank n (b .timing .ranks) w sound) (sound-kind n (b .timing .ranks) w sound) lasts ∙ ap (λ (x : ℕ). gapsMet (b .timing) g x t) (same-word k some))
 
     -- so the first that may go is at the same place
     same-place : goesAt b ≡ goesAt c
@@ -164,13 +165,13 @@ module _ (low : ℕ → Bool) (n : ℕ) (b : Bus) (r : Queues) (g : Flight) wher
         let same = same-going some in
         let fr = one .flight in
         let gr = two .flight in
-        let at = activateAt t (kindOf w) in
+        let at = activateAt t (rankOf w) (kindOf w) in
         let column = t + b .timing .column in
         let response = t + b .timing .response in
-        let bank = sound-bank n w (going-sound n b one some) in
-        let bank-f = subst (λ (k : ℕ). bankOf w < k) (sym (fr .banks-long)) bank in
-        let bank-g = subst (λ (k : ℕ). bankOf w < k) (sym (gr .banks-long)) bank in
-        let same-banks : set (g .banks) (bankOf w) at ≡ set (g .banks) (bankOf v) (activateAt t (kindOf v)) = ap (λ (x : ℕ). set (g .banks) (bankOf x) (activateAt t (kindOf x))) same in
+        let bank = place-small w (sound-bank n (b .timing .ranks) w (going-sound n b one some)) in
+        let bank-f = subst (λ (k : ℕ). bankPlace w < k) (sym (fr .banks-long)) bank in
+        let bank-g = subst (λ (k : ℕ). bankPlace w < k) (sym (gr .banks-long)) bank in
+        let same-banks : set (g .banks) (bankPlace w) at ≡ set (g .banks) (bankPlace v) (activateAt t (rankOf v) (kindOf v)) = ap (λ (x : ℕ). set (g .banks) (bankPlace x) (activateAt t (rankOf x) (kindOf x))) same in
         record {
           wires = ap (λ (x : ℕ). Activate (requestOf x)) same;
           queues = same-rest some;
@@ -178,11 +179,11 @@ module _ (low : ℕ → Bool) (n : ℕ) (b : Bus) (r : Queues) (g : Flight) wher
           responses = stored-both low (f .responses) (g .responses) (response % 32) w v (inside (f .responses) (fr .responses-long) response) (inside (g .responses) (gr .responses-long) response) (ap (hideWord low) same) responses;
           lasts =
               record {
-                of-all = inl (ap (λ (x : ℕ). activateAt t (kindOf x)) same);
+                of-all = inl (ap (λ (x : ℕ). activateAt t (rankOf x) (kindOf x)) same);
                 of-bank =
                     λ i l.
-                    subst (λ (x : List ℕ). LastAgree dead (t + 1) (getD (set (f .banks) (bankOf w) at) i 0) (getD x i 0)) same-banks
-                    (stored-in-both (LastAgree dead (t + 1)) (f .banks) (g .banks) (bankOf w) at at i bank-f bank-g (λ here. inl refl) (λ other. later .of-bank i l));
+                    subst (λ (x : List ℕ). LastAgree dead (t + 1) (getD (set (f .banks) (bankPlace w) at) i 0) (getD x i 0)) same-banks
+                    (stored-in-both (LastAgree dead (t + 1)) (f .banks) (g .banks) (bankPlace w) at at i bank-f bank-g (λ here. inl refl) (λ other. later .of-bank i l));
               };
         }
 

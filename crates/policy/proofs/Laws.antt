@@ -1,7 +1,7 @@
 -- Every policy in range has the laws of `specs/Laws.antt`: that it is in range is taken apart into its tests, and each test is said of every class.
 -- Assumes nothing.
 use mathlib.Core.Path.{_≡_, refl, sym, ap, _∙_, subst}
-use mathlib.Core.Logic.{⊎-elim}
+use mathlib.Core.Logic.{_⊎_, inl, inr, ⊎-elim}
 use mathlib.Core.Bool.{Bool, true, false, cond, _&&_, _||_}
 use mathlib.Core.List.{List, _∷_}
 use Prim.Native.Nat.{ℕ, zero, suc, _+_, _-_, _^_, _≤_, _<_, zero-le}
@@ -14,13 +14,13 @@ use Rattle.basics.specs.Below.{every}
 use Rattle.masks.specs.Mask.{member, size}
 use Rattle.order.specs.Order.{strictlyIn, rowFits, rowsFit, antisymmetric, transitive, hasLeast, leastAt, leastIn, betweenIn, coversIn, coverSet, aboveIn}
 use Rattle.turns.specs.Turns.{turnsSound, minimumsSum, minimumsAbove, capIn, minimumsBelow}
-use Rattle.timing.specs.Timing.{within, gapsWithin, bankWithin, timingSound}
+use Rattle.timing.specs.Timing.{within, gapsWithin, bankWithin, rankWithin, timingSound}
 use Rattle.policy.specs.Policy.{flows, strictly, least, above, coversOf, coverCount, cover, cap, minimum, isClass, shaped, storedFits, allStoredFits, policyTests, firstFailing, refusal, inRange}
 use Rattle.policy.specs.Laws.{OrderLaws, LeastLaws, Covering, CoverLaws, AboveLaws, CapLaws, TimingLaws, PolicyLaws}
 use Rattle.order.specs.Laws.{Reflexive, Least}
 use Rattle.timing.specs.declared.Timing.{Timing}
 use Rattle.policy.specs.declared.Policy.{Policy}
-use Rattle.basics.proofs.Truth.{either, false-unless, not-both, and-left, and-right, and-both, and-three, and-four, not-true, not-false}
+use Rattle.basics.proofs.Truth.{either, false-unless, not-both, and-left, and-right, and-both, and-three, and-four, or-cases, not-true, not-false}
 use Rattle.basics.proofs.Below.{lt-or-ge, every-at, some-at, some-found, first-found, count-few, count-all-fail, count-less, sum-without}
 use Rattle.masks.proofs.Masks.{member-zero, member-over, member-setOf, setOf-below}
 use Rattle.order.proofs.Orders as orders
@@ -415,6 +415,19 @@ four-gaps l dead e k h = at k h
     at (suc (suc (suc zero))) h = bounds 1 (getD l 3 0) dead (each .3)
     at (suc (suc (suc (suc k)))) h = absurd (not-suc-le-zero {n = k} (omega arith))
 
+-- one rank without a gap, or four with one
+rank-said : (ranks rank dead : ℕ) → rankWithin ranks rank dead ≡ true → (rank ≤ dead) × (((ranks ≡ 1) × (rank ≡ 0)) ⊎ ((ranks ≡ 4) × (1 ≤ rank)))
+unfolding rankWithin
+rank-said ranks rank dead e =
+    ⊎-elim
+    (λ one.
+    let none = eqb-true rank 0 (and-right (eqb ranks 1) (eqb rank 0) one) in
+    (omega (arith, none), inl (eqb-true ranks 1 (and-left (eqb ranks 1) (eqb rank 0) one), none)))
+    (λ four.
+    let gap = bounds 1 rank dead (and-right (eqb ranks 4) (within 1 rank dead) four) in
+    (gap .1, inr (eqb-true ranks 4 (and-left (eqb ranks 4) (within 1 rank dead) four), gap .0)))
+    (or-cases (eqb ranks 1 && eqb rank 0) (eqb ranks 4 && within 1 rank dead) e)
+
 pub timing-laws : (t : Timing) → timingSound t ≡ true → TimingLaws t
 unfolding timingSound
 timing-laws t e =
@@ -422,7 +435,10 @@ timing-laws t e =
     let bank = bankWithin (t .bank) (t .dead) in
     let response = within 2 (t .response) (t .dead) in
     let column = within 1 (t .column) (t .response - 1) in
-    let last = and-four (within 2 (t .turn) 255 && within 2 (t .dead) 31 && ltb (t .dead) (t .turn) && gaps) bank response column e in
+    let ranks = rankWithin (t .ranks) (t .rank) (t .dead) in
+    let all = within 2 (t .turn) 255 && within 2 (t .dead) 31 && ltb (t .dead) (t .turn) && gaps in
+    let last = and-four all bank response column (and-left (all && bank && response && column) ranks e) in
+    let ranked = rank-said (t .ranks) (t .rank) (t .dead) (and-right (all && bank && response && column) ranks e) in
     let front = and-four (within 2 (t .turn) 255) (within 2 (t .dead) 31) (ltb (t .dead) (t .turn)) gaps (last .0) in
     let answered = bounds 2 (t .response) (t .dead) (last .2) in
     let sent = bounds 1 (t .column) (t .response - 1) (last .3) in
@@ -434,6 +450,8 @@ timing-laws t e =
       bank-bounds = two-gaps (t .bank) (t .dead) (last .1);
       response-bounds = answered;
       column-bounds = (sent .0, omega arith);
+      rank-bound = ranked .0;
+      ranks-are = ranked .1;
     }
 
 -- ---- all of them

@@ -1,7 +1,7 @@
 -- What holds of every policy in range: the laws by which everything above this crate knows the order, its covers, the caps and the timing.
 -- Each record is a statement; `proofs/Laws.antt` proves it of every p with `inRange p ≡ true`, of which every policy that reading hands back is one.
 use mathlib.Core.Path.{_≡_}
-use mathlib.Core.Logic.{_↔_}
+use mathlib.Core.Logic.{_↔_, _⊎_}
 use mathlib.Core.Bool.{Bool, true, cond, _&&_}
 use Prim.Native.Nat.{ℕ, _+_, _^_, _%_, _≤_, _<_}
 use lib.Dec.{eqb}
@@ -96,6 +96,9 @@ pub record TimingLaws (t : Timing) : Type 0 where
   pub bank-bounds : (k : ℕ) → k < 2 → (1 ≤ getD (t .bank) k 0) × (getD (t .bank) k 0 ≤ t .dead)
   pub response-bounds : (2 ≤ t .response) × (t .response ≤ t .dead)
   pub column-bounds : (1 ≤ t .column) × (t .column < t .response)
+  -- W-206: "the rank gap (1 to the dead time)", where there are four ranks; one rank has none
+  pub rank-bound : t .rank ≤ t .dead
+  pub ranks-are : ((t .ranks ≡ 1) × (t .rank ≡ 0)) ⊎ ((t .ranks ≡ 4) × (1 ≤ t .rank))
 
 pub record PolicyLaws (p : Policy) : Type 0 where
   pub order : OrderLaws p

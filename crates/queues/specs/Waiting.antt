@@ -39,13 +39,13 @@ waiting q c = listOf (lengthOf q c) (waitingAt q c)
 -- ---- in range: "Out of range in 13 means", clause by clause
 
 -- "a waiting .. request that 9 or 10 would refuse, or that waits in another class's queue"
-unfoldable pub rightWord : ℕ → ℕ → ℕ → Bool
-rightWord n c w = soundWord n w && eqb (classOf w) c
+unfoldable pub rightWord : ℕ → ℕ → ℕ → ℕ → Bool
+rightWord n ranks c w = soundWord n ranks w && eqb (classOf w) c
 
 -- "a queue length above 8", and a head that is none of the ring's places
-unfoldable pub ringInRange : ℕ → List ℕ → ℕ → ℕ → ℕ → Bool
-ringInRange n slots c head len = leb len ringPlaces && ltb head ringPlaces && every ringPlaces (λ k. leb len k || rightWord n c (getD slots (place c head k) 0))
+unfoldable pub ringInRange : ℕ → ℕ → List ℕ → ℕ → ℕ → ℕ → Bool
+ringInRange n ranks slots c head len = leb len ringPlaces && ltb head ringPlaces && every ringPlaces (λ k. leb len k || rightWord n ranks c (getD slots (place c head k) 0))
 
 -- W-203: "A stored count above 15 gets 13."
-unfoldable pub queueInRange : ℕ → Queues → ℕ → Bool
-queueInRange n q c = ringInRange n (q .slots) c (headOf q c) (lengthOf q c) && leb (passedOf q c) mostPassed
+unfoldable pub queueInRange : ℕ → ℕ → Queues → ℕ → Bool
+queueInRange n ranks q c = ringInRange n ranks (q .slots) c (headOf q c) (lengthOf q c) && leb (passedOf q c) mostPassed

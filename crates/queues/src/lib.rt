@@ -38,23 +38,30 @@ pub fn place(class: usize, head: usize, k: usize) -> usize
 }
 
 // A stored word is that of a sound request of the class.
-fn right_word(classes: usize, class: usize, word: u32) -> bool
-    ensures { λ r. ⌜ r ≡ rightWord classes class word ⌝ }
+fn right_word(classes: usize, ranks: u32, class: usize, word: u32) -> bool
+    ensures { λ r. ⌜ r ≡ rightWord classes ranks class word ⌝ }
 {
     let of = words::class_of(word) as usize;
-    words::sound_word(classes, word) & (of == class)
+    words::sound_word(classes, ranks, word) & (of == class)
 }
 
 // Every waiting request of a class is right.
-fn words_in_range(classes: usize, slots: &Slots, class: usize, head: usize, length: usize) -> bool
+fn words_in_range(
+    classes: usize,
+    ranks: u32,
+    slots: &Slots,
+    class: usize,
+    head: usize,
+    length: usize,
+) -> bool
     requires { ⌜ (class < 16) × (head < ringPlaces) ⌝ }
     ensures { λ r. ⌜ r
-        ≡ every ringPlaces (λ k. leb length k || rightWord classes class (getD (now (slots .entry)) (place class head k) 0)) ⌝ }
+        ≡ every ringPlaces (λ k. leb length k || rightWord classes ranks class (getD (now (slots .entry)) (place class head k) 0)) ⌝ }
 {
     let mut k = 0;
     while k < RING_PLACES {
         let place = place(class, head, k);
-        if !((length <= k) | right_word(classes, class, slots[place])) {
+        if !((length <= k) | right_word(classes, ranks, class, slots[place])) {
             return false;
         }
         k += 1;
@@ -62,9 +69,16 @@ fn words_in_range(classes: usize, slots: &Slots, class: usize, head: usize, leng
     true
 }
 
-fn ring_in_range(classes: usize, slots: &Slots, class: usize, head: usize, length: usize) -> bool
+fn ring_in_range(
+    classes: usize,
+    ranks: u32,
+    slots: &Slots,
+    class: usize,
+    head: usize,
+    length: usize,
+) -> bool
     requires { ⌜ class < 16 ⌝ }
-    ensures { λ r. ⌜ r ≡ ringInRange classes (now (slots .entry)) class head length ⌝ }
+    ensures { λ r. ⌜ r ≡ ringInRange classes ranks (now (slots .entry)) class head length ⌝ }
 {
     if RING_PLACES < length {
         return false;
@@ -72,23 +86,24 @@ fn ring_in_range(classes: usize, slots: &Slots, class: usize, head: usize, lengt
     if RING_PLACES <= head {
         return false;
     }
-    words_in_range(classes, slots, class, head, length)
+    words_in_range(classes, ranks, slots, class, head, length)
 }
 
 // Every class's queue is in range, and no more have passed its oldest than may.
 pub fn queues_in_range(
     classes: usize,
+    ranks: u32,
     slots: &Slots,
     heads: &[usize; 16],
     lengths: &[usize; 16],
     passed: &[usize; 16],
 ) -> bool
     ensures { λ r. ⌜ r
-        ≡ every 16 (queueInRange classes (queuesOf (now (slots .entry)) (now (heads .entry)) (now (lengths .entry)) (now (passed .entry)))) ⌝ }
+        ≡ every 16 (queueInRange classes ranks (queuesOf (now (slots .entry)) (now (heads .entry)) (now (lengths .entry)) (now (passed .entry)))) ⌝ }
 {
     let mut class = 0;
     while class < 16 {
-        let fits = ring_in_range(classes, slots, class, heads[class], lengths[class]);
+        let fits = ring_in_range(classes, ranks, slots, class, heads[class], lengths[class]);
         if !(fits & (passed[class] <= MOST_PASSED)) {
             return false;
         }

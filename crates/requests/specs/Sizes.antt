@@ -17,6 +17,10 @@ mostPassed = 15
 abbrev pub bankCount : ℕ
 bankCount = 8
 
+-- W-206: "four ranks of eight banks"
+abbrev pub bankPlaces : ℕ
+bankPlaces = 32
+
 -- how many due cycles are told apart: more than any delay, which is at most the dead time, "2 to 31"
 abbrev pub pendingPlaces : ℕ
 pendingPlaces = 32

@@ -5,8 +5,10 @@ ghost use Rattle.requests.specs.Trace.{callOf};
 
 pub mod words;
 
-// The banks, numbered from 0.
+// The banks of a rank, numbered from 0, and those of all four ranks.
 pub const BANK_COUNT: usize = 8;
+
+pub const BANK_PLACES: usize = 32;
 
 // A request, as an offer makes it.
 pub struct Request {
@@ -14,6 +16,8 @@ pub struct Request {
     // 0 is a read, 1 a write.
     pub kind: u32,
     pub bank: u32,
+    // 0 to 3, where the policy has four ranks, and 0 where it has one.
+    pub rank: u32,
     pub tag: u16,
 }
 
@@ -42,7 +46,7 @@ pub enum Call {
     Malformed,
 }
 
-// A trace word told apart: 0 is a tick; a word that has the form of an offer is one, whatever its class, bank and kind.
+// A trace word told apart: 0 is a tick; a word that has the form of an offer is one, whatever its class, bank, kind and rank.
 pub fn call_of(word: u32) -> Call
     ensures { λ r. ⌜ r ≡ callOf word ⌝ }
 {

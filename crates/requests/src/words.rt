@@ -1,8 +1,10 @@
 // A request's word and back, and the numbers of a record's parts in the log.
 
 ghost use mathlib.Core.Path.{_≡_};
-ghost use Prim.Native.Nat.{min};
-ghost use Rattle.requests.specs.Word.{classOf, kindOf, bankOf, tagOf, requestOf, wordOf, isOffer, classFits, bankAndKindFit, soundWord, commandNumber, wiresOf};
+ghost use Prim.Native.Nat.{min, _+_, _*_, _%_, _<_};
+ghost use Rattle.requests.specs.Sizes.{bankPlaces};
+ghost use Rattle.requests.specs.Word.{classOf, rankOf, kindOf, bankOf, tagOf, requestOf, bankInWord, wordOf, isOffer, classFits, bankKindRankFit, soundWord, commandNumber, wiresOf};
+use super::BANK_COUNT;
 use super::Request;
 use super::Wires;
 
@@ -17,6 +19,12 @@ pub fn class_of(word: u32) -> u32
     word / 16777216 % 32
 }
 
+pub fn rank_of(word: u32) -> u32
+    ensures { λ r. ⌜ r ≡ rankOf word ⌝ }
+{
+    word / 4194304 % 4
+}
+
 pub fn kind_of(word: u32) -> u32
     ensures { λ r. ⌜ r ≡ kindOf word ⌝ }
 {
@@ -27,6 +35,15 @@ pub fn bank_of(word: u32) -> u32
     ensures { λ r. ⌜ r ≡ bankOf word ⌝ }
 {
     word / 65536 % 16
+}
+
+// The place of a word's bank among those of all ranks: "a bank is then known by rank and bank". A bank is below 8; another number, of which document 01 says nothing, counts as what it is
+// modulo 8.
+pub fn bank_place(word: u32) -> usize
+    ensures place { λ r. ⌜ r ≡ 8 * rankOf word + bankOf word % 8 ⌝ }
+    ensures small { λ r. ⌜ r < bankPlaces ⌝ }
+{
+    8 * (rank_of(word) as usize) + bank_of(word) as usize % BANK_COUNT
 }
 
 fn tag_of(word: u32) -> u16
@@ -43,6 +60,7 @@ pub fn request_of(word: u32) -> Request
         class: class_of(word),
         kind: kind_of(word),
         bank: bank_of(word),
+        rank: rank_of(word),
         tag: tag_of(word),
     }
 }
@@ -54,6 +72,13 @@ fn at_most(x: u32, most: u32) -> u32
     if x < most { x } else { most }
 }
 
+// The bank of a request in its word. A rank above 3, which no word holds and 10 refuses, is told by a bank that 10 refuses too.
+fn bank_in_word(r: Request) -> u32
+    ensures { λ b. ⌜ b ≡ bankInWord r ⌝ }
+{
+    if r.rank <= 3 { at_most(r.bank, 15) } else { 15 }
+}
+
 // The word of a request. Of a number too large for its field, which document 01 leaves open, the largest of the field is taken: 9 or 10 refuses the word as it refuses
 // the request.
 pub fn word_of(r: Request) -> u32
@@ -61,8 +86,9 @@ pub fn word_of(r: Request) -> u32
 {
     2147483648
         + at_most(r.class, 31) * 16777216
+        + at_most(r.rank, 3) * 4194304
         + at_most(r.kind, 3) * 1048576
-        + at_most(r.bank, 15) * 65536
+        + bank_in_word(r) * 65536
         + (r.tag as u32)
 }
 
@@ -70,7 +96,7 @@ pub fn word_of(r: Request) -> u32
 pub fn is_offer(word: u32) -> bool
     ensures { λ r. ⌜ r ≡ isOffer word ⌝ }
 {
-    (word / 536870912 == 4) & (word / 4194304 % 4 == 0)
+    word / 536870912 == 4
 }
 
 // 9: the class is below the class count.
@@ -80,19 +106,19 @@ pub fn class_fits(classes: usize, r: Request) -> bool
     order::is_class(classes, r.class as usize)
 }
 
-// 10: bank and kind are in range.
-pub fn bank_and_kind_fit(r: Request) -> bool
-    ensures { λ b. ⌜ b ≡ bankAndKindFit r ⌝ }
+// 10: bank, kind and rank are in range, where there are so many ranks.
+pub fn bank_kind_rank_fit(ranks: u32, r: Request) -> bool
+    ensures { λ b. ⌜ b ≡ bankKindRankFit ranks r ⌝ }
 {
-    (r.bank <= 7) & (r.kind <= 1)
+    (r.bank <= 7) & (r.kind <= 1) & (r.rank < ranks)
 }
 
 // Whether a stored word is that of a request which 9 and 10 do not refuse.
-pub fn sound_word(classes: usize, word: u32) -> bool
-    ensures { λ r. ⌜ r ≡ soundWord classes word ⌝ }
+pub fn sound_word(classes: usize, ranks: u32, word: u32) -> bool
+    ensures { λ r. ⌜ r ≡ soundWord classes ranks word ⌝ }
 {
     let r = request_of(word);
-    is_offer(word) & class_fits(classes, r) & bank_and_kind_fit(r)
+    is_offer(word) & class_fits(classes, r) & bank_kind_rank_fit(ranks, r)
 }
 
 // The command's number in the log: the request's word, with bit 30 set for a column command, and 0 for none. Of a request with a number too large for its field, which

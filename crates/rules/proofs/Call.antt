@@ -16,9 +16,9 @@ use Rattle.state.specs.declared.State.{State}
 use Rattle.requests.specs.declared.Call.the-variants.{Tick, Offer, Malformed}
 
 module _ (p : Policy) (s : State) (given : inRange p s ≡ true) where
-  pub offer-is : (r : Request) → offer p s r ≡ offerOn s r
+  pub offer-is : (r : Request) → offer p s r ≡ offerOn (p .timing .ranks) s r
   unfolding offer
-  offer-is r = on-true (inRange p s) (offerOn s r) (record { status = 13; state = s }) given
+  offer-is r = on-true (inRange p s) (offerOn (p .timing .ranks) s r) (record { status = 13; state = s }) given
 
   pub tick-is : ltb (s .cycle) lastCycle ≡ true → tick p s ≡ afterTick p s
   unfolding tick tickOn

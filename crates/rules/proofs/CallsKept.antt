@@ -20,7 +20,7 @@ use Rattle.basics.proofs.Below.{lt-or-ge}
 use Rattle.basics.proofs.Stores.{same-or-other}
 use Rattle.policy.proofs.Laws.{policy-laws}
 use Rattle.requests.specs.Sizes.{lastCycle}
-use Rattle.requests.specs.Word.{classOf, kindOf, bankOf, requestOf, wordOf, classFits, bankAndKindFit, soundWord, columnNumber, commandNumber, wiresOf}
+use Rattle.requests.specs.Word.{classOf, rankOf, kindOf, bankOf, bankPlace, requestOf, wordOf, classFits, bankKindRankFit, soundWord, columnNumber, commandNumber, wiresOf}
 use Rattle.queues.specs.Waiting.{headOf, lengthOf, passedOf, waitingAt, rightWord}
 use Rattle.flight.specs.Flight.{dueAt, activateAt, sentAt}
 use Rattle.rules.specs.Queue.{enqueue, passedAfter, dequeue, offerStatus, queuesAfter}
@@ -37,10 +37,10 @@ use Rattle.state.specs.declared.State.{State}
 use Rattle.state.specs.declared.Made.{Made}
 use Rattle.state.specs.declared.Offered.{Offered}
 use Rattle.state.specs.declared.Ticked.{Ticked}
-use Rattle.requests.proofs.Word.{class-back, kind-back, bank-back, is-offer, word-back, wires-activate, wires-column}
+use Rattle.requests.proofs.Word.{rank-small, place-small, bank-held, class-back, rank-back, kind-back, bank-back, is-offer, word-back, wires-activate, wires-column}
 use Rattle.rules.proofs.Queue as waiting
 use Rattle.rules.proofs.Wire.{gap-shift, gap-new, gap-none, stored-new, Before}
-use Rattle.rules.proofs.Range.{sound-offer, sound-bank, sound-kind, QueueRange, QueuesRange, Fits, FlightRange, Ranged, ranged, in-range, BusRange, bus-range, goes-waits, goes-past, going-sound, due-offer}
+use Rattle.rules.proofs.Range.{sound-offer, fit-bounds, fit-back, sound-bank, sound-kind, ranks-few, QueueRange, QueuesRange, Fits, FlightRange, Ranged, ranged, in-range, BusRange, bus-range, goes-waits, goes-past, going-sound, due-offer}
 use Rattle.rules.proofs.PendingWords.{Later}
 use Rattle.rules.proofs.FlightKept.{columns-next, responses-next, activates-next}
 use Rattle.rules.proofs.Step.{outcome}
@@ -69,9 +69,9 @@ pub none-due : (t : ℕ) → dueAt (zeros 32) t ≡ 0
 unfolding dueAt
 none-due t = zero-at 32 (t % 32)
 
-empty-queue : (n c : ℕ) → QueueRange n emptyQueues c
+empty-queue : (n ranks c : ℕ) → QueueRange n ranks emptyQueues c
 unfolding emptyQueues zeros headOf lengthOf passedOf
-empty-queue n c =
+empty-queue n ranks c =
     record {
       short = subst (λ (k : ℕ). k ≤ 8) (sym (zero-at 16 c)) zero-le;
       in-ring = subst (λ (k : ℕ). k < 8) (sym (zero-at 16 c)) (lit< tt);
@@ -81,12 +81,12 @@ empty-queue n c =
 
 -- ---- the queues
 
-module _ (n : ℕ) (q : Queues) (r : QueuesRange n q) (c : ℕ) (small : c < 16) where
-  module _ (w : ℕ) (room : lengthOf q c < 8) (right : rightWord n c w ≡ true) where
+module _ (n ranks : ℕ) (q : Queues) (r : QueuesRange n ranks q) (c : ℕ) (small : c < 16) where
+  module _ (w : ℕ) (room : lengthOf q c < 8) (right : rightWord n ranks c w ≡ true) where
     longer : lengthOf (enqueue q c w) c ≡ lengthOf q c + 1
     longer = waiting.enqueue-longer q c w (subst (λ (k : ℕ). c < k) (sym (r .lengths-long)) small)
 
-    enqueued : QueueRange n (enqueue q c w) c
+    enqueued : QueueRange n ranks (enqueue q c w) c
     enqueued =
         record {
           short = omega (arith, longer, room);
@@ -94,26 +94,26 @@ module _ (n : ℕ) (q : Queues) (r : QueuesRange n q) (c : ℕ) (small : c < 16)
           right =
               λ k l.
               ⊎-elim
-              (λ h. ap (rightWord n c) (waiting.enqueue-before q c w k h room) ∙ r .queue c small .right k h)
+              (λ h. ap (rightWord n ranks c) (waiting.enqueue-before q c w k h room) ∙ r .queue c small .right k h)
               (λ h.
               let last : k ≡ lengthOf q c = omega (arith, l, h, longer) in
-              ap (rightWord n c) (ap (waitingAt (enqueue q c w) c) last ∙ waiting.enqueue-last q c w small (r .slots-long)) ∙ right)
+              ap (rightWord n ranks c) (ap (waitingAt (enqueue q c w) c) last ∙ waiting.enqueue-last q c w small (r .slots-long)) ∙ right)
               (lt-or-ge k (lengthOf q c));
           few-passed = subst (λ (k : ℕ). k ≤ 15) (sym (waiting.enqueue-passed q c w c)) (r .queue c small .few-passed);
         }
 
-    beside : (d : ℕ) → d < 16 → d ≢ c → QueueRange n (enqueue q c w) d
+    beside : (d : ℕ) → d < 16 → d ≢ c → QueueRange n ranks (enqueue q c w) d
     beside d l apart =
         record {
           short = subst (λ (k : ℕ). k ≤ 8) (sym (waiting.enqueue-else q c w d apart)) (r .queue d l .short);
           in-ring = subst (λ (k : ℕ). k < 8) (sym (waiting.enqueue-head q c w d)) (r .queue d l .in-ring);
           right =
               λ k h.
-              ap (rightWord n d) (waiting.enqueue-apart q c w d k apart) ∙ r .queue d l .right k (subst (λ (m : ℕ). k < m) (waiting.enqueue-else q c w d apart) h);
+              ap (rightWord n ranks d) (waiting.enqueue-apart q c w d k apart) ∙ r .queue d l .right k (subst (λ (m : ℕ). k < m) (waiting.enqueue-else q c w d apart) h);
           few-passed = subst (λ (k : ℕ). k ≤ 15) (sym (waiting.enqueue-passed q c w d)) (r .queue d l .few-passed);
         }
 
-    pub enqueue-kept : QueuesRange n (enqueue q c w)
+    pub enqueue-kept : QueuesRange n ranks (enqueue q c w)
     unfolding enqueue
     enqueue-kept =
         record {
@@ -121,7 +121,7 @@ module _ (n : ℕ) (q : Queues) (r : QueuesRange n q) (c : ℕ) (small : c < 16)
           heads-long = r .heads-long;
           lengths-long = length-set (q .lengths) c (lengthOf q c + 1) ∙ r .lengths-long;
           passed-long = r .passed-long;
-          queue = λ d l. same-or-other (QueueRange n (enqueue q c w)) c d enqueued (beside d l);
+          queue = λ d l. same-or-other (QueueRange n ranks (enqueue q c w)) c d enqueued (beside d l);
         }
 
   module _ (m : ℕ) (some : m < lengthOf q c) (passes : ((m ≡ 0) → ⊥) → passedOf q c < 15) where
@@ -137,7 +137,7 @@ module _ (n : ℕ) (q : Queues) (r : QueuesRange n q) (c : ℕ) (small : c < 16)
     counted =
         ⊎-elim (λ first. rw first zero-le) (λ other. rw other (omega (arith, passes (eqb-false m 0 other)))) (either (eqb m 0))
 
-    dequeued : QueueRange n (dequeue q c m) c
+    dequeued : QueueRange n ranks (dequeue q c m) c
     dequeued =
         record {
           short = omega (arith, shorter, r .queue c small .short);
@@ -146,27 +146,27 @@ module _ (n : ℕ) (q : Queues) (r : QueuesRange n q) (c : ℕ) (small : c < 16)
               λ k l.
               ⊎-elim
               (λ before.
-              ap (rightWord n c) (waiting.dequeue-before q c m small (r .slots-long) in-heads k before (omega (arith, some, r .queue c small .short)))
+              ap (rightWord n ranks c) (waiting.dequeue-before q c m small (r .slots-long) in-heads k before (omega (arith, some, r .queue c small .short)))
               ∙ r .queue c small .right k (omega (arith, before, some)))
               (λ after.
-              ap (rightWord n c) (waiting.dequeue-after q c m in-heads k after (omega (arith, l, shorter, r .queue c small .short)))
+              ap (rightWord n ranks c) (waiting.dequeue-after q c m in-heads k after (omega (arith, l, shorter, r .queue c small .short)))
               ∙ r .queue c small .right (suc k) (omega (arith, l, shorter)))
               (lt-or-ge k m);
           few-passed = subst (λ (k : ℕ). k ≤ 15) (sym (waiting.dequeue-passed q c m (subst (λ (k : ℕ). c < k) (sym (r .passed-long)) small))) counted;
         }
 
-    left-alone : (d : ℕ) → d < 16 → d ≢ c → QueueRange n (dequeue q c m) d
+    left-alone : (d : ℕ) → d < 16 → d ≢ c → QueueRange n ranks (dequeue q c m) d
     left-alone d l apart =
         record {
           short = subst (λ (k : ℕ). k ≤ 8) (sym (waiting.dequeue-else q c m d apart)) (r .queue d l .short);
           in-ring = subst (λ (k : ℕ). k < 8) (sym (waiting.dequeue-else-head q c m d apart)) (r .queue d l .in-ring);
           right =
               λ k h.
-              ap (rightWord n d) (waiting.dequeue-apart q c m d k apart) ∙ r .queue d l .right k (subst (λ (i : ℕ). k < i) (waiting.dequeue-else q c m d apart) h);
+              ap (rightWord n ranks d) (waiting.dequeue-apart q c m d k apart) ∙ r .queue d l .right k (subst (λ (i : ℕ). k < i) (waiting.dequeue-else q c m d apart) h);
           few-passed = subst (λ (k : ℕ). k ≤ 15) (sym (waiting.dequeue-else-passed q c m d apart)) (r .queue d l .few-passed);
         }
 
-    pub dequeue-kept : QueuesRange n (dequeue q c m)
+    pub dequeue-kept : QueuesRange n ranks (dequeue q c m)
     unfolding dequeue
     dequeue-kept =
         record {
@@ -174,7 +174,7 @@ module _ (n : ℕ) (q : Queues) (r : QueuesRange n q) (c : ℕ) (small : c < 16)
           heads-long = length-set (q .heads) c ((headOf q c + 1) % 8) ∙ r .heads-long;
           lengths-long = length-set (q .lengths) c (lengthOf q c - 1) ∙ r .lengths-long;
           passed-long = length-set (q .passed) c (passedAfter m (passedOf q c)) ∙ r .passed-long;
-          queue = λ d l. same-or-other (QueueRange n (dequeue q c m)) c d dequeued (left-alone d l);
+          queue = λ d l. same-or-other (QueueRange n ranks (dequeue q c m)) c d dequeued (left-alone d l);
         }
 
 -- ---- the second step, and what is in flight once the third is done
@@ -186,23 +186,26 @@ module _ (n : ℕ) (b : Bus) (r : BusRange n b) where
   abbrev f : Flight
   f = b .flight
 
+  abbrev ranks : ℕ
+  ranks = b .timing .ranks
+
   abbrev goes : Type 0
   goes = canActivate b ≡ true
 
-  queues-kept : QueuesRange n (drive b .queues)
+  queues-kept : QueuesRange n ranks (drive b .queues)
   queues-kept =
-      outcome b (λ d. QueuesRange n (d .queues)) (λ due. r .queues)
-      (λ due e. dequeue-kept n (b .queues) (r .queues) (b .owner) (r .owner-small) (goesAt b) (goes-waits n b r e) (goes-past n b r e))
+      outcome b (λ d. QueuesRange n ranks (d .queues)) (λ due. r .queues)
+      (λ due e. dequeue-kept n ranks (b .queues) (r .queues) (b .owner) (r .owner-small) (goesAt b) (goes-waits n b r e) (goes-past n b r e))
       (λ due stays. r .queues)
 
   -- a word due in fewer cycles than a bound is due a cycle later in fewer still, and a new one in its delay
-  nearer : (bound d w : ℕ) → Fits n bound (d + 1) w → Fits n bound d w
+  nearer : (bound d w : ℕ) → Fits n ranks bound (d + 1) w → Fits n ranks bound d w
   nearer bound d w h = (omega (arith, h .0), h .1)
 
-  sound : goes → soundWord n (going b) ≡ true
+  sound : goes → soundWord n ranks (going b) ≡ true
   sound e = going-sound n b r (goes-waits n b r e)
 
-  new-fits : (delay : ℕ) → goes → Later (Fits n delay) delay (going b)
+  new-fits : (delay : ℕ) → goes → Later (Fits n ranks delay) delay (going b)
   new-fits delay e d same = (omega (arith, same), sound e)
 
   flight-kept : FlightRange n (b .timing) (t + 1) (answered t (drive b .flight))
@@ -223,49 +226,53 @@ module _ (n : ℕ) (b : Bus) (r : BusRange n b) where
             (λ due e. length-set (f .responses) ((t + response) % 32) w ∙ fr .responses-long)
             (λ due stays. fr .responses-long));
         banks-long =
-            outcome b (λ d. length (d .flight .banks) ≡ 8) (λ due. fr .banks-long)
-            (λ due e. length-set (f .banks) (bankOf w) (activateAt t (kindOf w)) ∙ fr .banks-long)
+            outcome b (λ d. length (d .flight .banks) ≡ 32) (λ due. fr .banks-long)
+            (λ due e. length-set (f .banks) (bankPlace w) (activateAt t (rankOf w) (kindOf w)) ∙ fr .banks-long)
             (λ due stays. fr .banks-long);
         activates-before =
             activates-next b (Before t) (Before (t + 1)) (λ x early. (early .0, gap-shift x 1 1 t (t + 1) (omega arith) (early .1))) (fr .banks-long)
-            (λ e. (sound-bank n w (sound e), (stored-new t (kindOf w), gap-new (kindOf w) 1 t (t + 1) (sound-kind n w (sound e)) (omega arith))))
+            (λ e. (place-small w (sound-bank n ranks w (sound e)), (stored-new t (rankOf w) (kindOf w), gap-new (rankOf w) (kindOf w) 1 t (t + 1) (rank-small w) (sound-kind n ranks w (sound e)) (omega arith))))
             (fr .activates-before);
-        columns-due = columns-next b (r .timed) (Fits n column) (Fits n column) (nearer column) (fr .columns-long) (new-fits column) (fr .columns-due);
-        responses-due = responses-next b (r .timed) (Fits n response) (Fits n response) (nearer response) (fr .responses-long) (new-fits response) (fr .responses-due);
+        columns-due = columns-next b (r .timed) (Fits n ranks column) (Fits n ranks column) (nearer column) (fr .columns-long) (new-fits column) (fr .columns-due);
+        responses-due = responses-next b (r .timed) (Fits n ranks response) (Fits n ranks response) (nearer response) (fr .responses-long) (new-fits response) (fr .responses-due);
       }
 
 -- ---- the calls
+
+-- the command bus of a tick
+pub tick-bus : (p : Policy) (s : State) → Ranged p s → BusRange (p .classes) (busAt p s (turnsAt p (s .cycle) (s .queues .lengths) (s .turns) .turns))
+tick-bus p s w =
+    let turns = turnsAt p (s .cycle) (s .queues .lengths) (s .turns) .turns in
+    bus-range p s w turns (policy-laws p (w .fit) .order .class-small (turns .owner) (turns-kept p (w .fit) (s .cycle) (s .queues .lengths) (s .turns) (w .turns) .owner-class))
 
 tick-ranged : (p : Policy) (s : State) → Ranged p s → s .cycle < lastCycle → Ranged p (afterTick p s .state)
 unfolding afterTick
 tick-ranged p s w left =
     let t = s .cycle in
     let turns = turnsAt p t (s .queues .lengths) (s .turns) .turns in
-    let laws = policy-laws p (w .fit) in
-    let kept = turns-kept p (w .fit) t (s .queues .lengths) (s .turns) (w .turns) in
-    let bus = bus-range p s w turns (laws .order .class-small (turns .owner) (kept .owner-class)) in
+    let bus = tick-bus p s w in
     record {
       fit = w .fit;
       same-count = w .same-count;
       cycle-bound = omega (arith, left);
       queues = queues-kept (p .classes) (busAt p s turns) bus;
-      turns = kept;
+      turns = turns-kept p (w .fit) t (s .queues .lengths) (s .turns) (w .turns);
       flight = flight-kept (p .classes) (busAt p s turns) bus;
     }
 
 -- the word of a request that 9 and 10 do not refuse is right for its class's queue
-offered-right : (n : ℕ) (r : Request) → SmallClasses n → classFits n r ≡ true → bankAndKindFit r ≡ true → rightWord n (r .class) (wordOf r) ≡ true
-unfolding rightWord soundWord classFits bankAndKindFit requestOf
-offered-right n r few c b =
-    let bank = leb-true (r .bank) 7 (and-left (leb (r .bank) 7) (leb (r .kind) 1) b) in
-    let kind = leb-true (r .kind) 1 (and-right (leb (r .bank) 7) (leb (r .kind) 1) b) in
+offered-right : (n ranks : ℕ) (r : Request) → SmallClasses n → ranks ≤ 4 → classFits n r ≡ true → bankKindRankFit ranks r ≡ true → rightWord n ranks (r .class) (wordOf r) ≡ true
+unfolding rightWord soundWord classFits requestOf
+offered-right n ranks r few four c b =
+    let fits = fit-bounds ranks r b in
     let same-class : classOf (wordOf r) ≡ r .class = class-back r ∙ omega (arith, few (r .class) c) in
-    let same-bank : bankOf (wordOf r) ≡ r .bank = bank-back r ∙ omega (arith, bank) in
-    let same-kind : kindOf (wordOf r) ≡ r .kind = kind-back r ∙ omega (arith, kind) in
+    let bank : bankOf (wordOf r) ≤ 7 = omega (arith, bank-back r, bank-held r (omega (arith, fits .2, four)), fits .0) in
+    let kind : kindOf (wordOf r) ≤ 1 = omega (arith, kind-back r, fits .1) in
+    let rank : rankOf (wordOf r) < ranks = omega (arith, rank-back r, fits .2, four) in
     and-both
     (and-both
     (and-both (is-offer r) (subst (λ (k : ℕ). isClassIn n k ≡ true) (sym same-class) c))
-    (and-both (le-leb (bankOf (wordOf r)) 7 (subst (λ (k : ℕ). k ≤ 7) (sym same-bank) bank)) (le-leb (kindOf (wordOf r)) 1 (subst (λ (k : ℕ). k ≤ 1) (sym same-kind) kind))))
+    (fit-back ranks (requestOf (wordOf r)) bank kind rank))
     (eq-eqb (classOf (wordOf r)) (r .class) same-class)
 
 -- an offer is taken only if none of 9, 10 and 11 refuses it
@@ -275,26 +282,28 @@ taken true true false e = absurd (not-both e refl)
 taken true false c e = absurd (not-both e refl)
 taken false b c e = absurd (not-both e refl)
 
-offer-queues : (n : ℕ) (q : Queues) (r : Request) → SmallClasses n → QueuesRange n q → QueuesRange n (queuesAfter n q r)
+offer-queues : (n ranks : ℕ) (q : Queues) (r : Request) → SmallClasses n → ranks ≤ 4 → QueuesRange n ranks q → QueuesRange n ranks (queuesAfter n ranks q r)
 unfolding queuesAfter offerStatus
-offer-queues n q r few qr =
-    let status = eqb (offerStatus n (q .lengths) r) 0 in
+offer-queues n ranks q r few four qr =
+    let status = eqb (offerStatus n ranks (q .lengths) r) 0 in
     ⊎-elim
     (λ e.
-    let fits = taken (classFits n r) (bankAndKindFit r) (ltb (getD (q .lengths) (r .class) 0) 8) e in
-    subst (QueuesRange n) (sym (on-true status (enqueue q (r .class) (wordOf r)) q e))
-    (enqueue-kept n q qr (r .class) (below-sixteen n r few (fits .0)) (wordOf r) (room q (r .class) (fits .2)) (offered-right n r few (fits .0) (fits .1))))
-    (λ e. subst (QueuesRange n) (sym (on-false status (enqueue q (r .class) (wordOf r)) q e)) qr)
+    let fits = taken (classFits n r) (bankKindRankFit ranks r) (ltb (getD (q .lengths) (r .class) 0) 8) e in
+    subst (QueuesRange n ranks) (sym (on-true status (enqueue q (r .class) (wordOf r)) q e))
+    (enqueue-kept n ranks q qr (r .class) (below-sixteen n r few (fits .0)) (wordOf r) (room q (r .class) (fits .2)) (offered-right n ranks r few four (fits .0) (fits .1))))
+    (λ e. subst (QueuesRange n ranks) (sym (on-false status (enqueue q (r .class) (wordOf r)) q e)) qr)
     (either status)
 
-offer-ranged : (p : Policy) (s : State) (r : Request) → Ranged p s → Ranged p (offerOn s r .state)
+offer-ranged : (p : Policy) (s : State) (r : Request) → Ranged p s → Ranged p (offerOn (p .timing .ranks) s r .state)
 unfolding offerOn isClass
 offer-ranged p s r w =
     record {
       fit = w .fit;
       same-count = w .same-count;
       cycle-bound = w .cycle-bound;
-      queues = subst (λ (n : ℕ). QueuesRange (p .classes) (queuesAfter n (s .queues) r)) (sym (w .same-count)) (offer-queues (p .classes) (s .queues) r (policy-laws p (w .fit) .order .class-small) (w .queues));
+      queues =
+          subst (λ (n : ℕ). QueuesRange (p .classes) (p .timing .ranks) (queuesAfter n (p .timing .ranks) (s .queues) r)) (sym (w .same-count))
+          (offer-queues (p .classes) (p .timing .ranks) (s .queues) r (policy-laws p (w .fit) .order .class-small) (ranks-few (p .timing) (policy-laws p (w .fit) .timed)) (w .queues));
       turns = w .turns;
       flight = w .flight;
     }
@@ -307,7 +316,7 @@ fresh-ranged p given =
       fit = given;
       same-count = refl;
       cycle-bound = zero-le;
-      queues = record { slots-long = refl; heads-long = refl; lengths-long = refl; passed-long = refl; queue = λ c l. empty-queue (p .classes) c };
+      queues = record { slots-long = refl; heads-long = refl; lengths-long = refl; passed-long = refl; queue = λ c l. empty-queue (p .classes) (p .timing .ranks) c };
       turns =
           record {
             owner-class = laws .order .zero-class;
@@ -319,7 +328,7 @@ fresh-ranged p given =
             columns-long = refl;
             responses-long = refl;
             banks-long = refl;
-            activates-before = record { of-all = (refl, gap-none 1 0); of-bank = λ b l. subst (Before 0) (sym (zero-at 8 b)) (refl, gap-none 1 0) };
+            activates-before = record { of-all = (refl, gap-none 1 0); of-bank = λ b l. subst (Before 0) (sym (zero-at 32 b)) (refl, gap-none 1 0) };
             columns-due = λ d l. inl (none-due (0 + d));
             responses-due = λ d l. inl (none-due (0 + d));
           };
@@ -339,7 +348,7 @@ module _ (p : Policy) where
 
   pub offer-in-range : (s : State) (r : Request) → inRange p s ≡ true → inRange p (offer p s r .state) ≡ true
   offer-in-range s r e =
-      subst (λ (o : Offered). inRange p (o .state) ≡ true) (sym (offer-is p s e r)) (in-range p (offerOn s r .state) (offer-ranged p s r (ranged p s e)))
+      subst (λ (o : Offered). inRange p (o .state) ≡ true) (sym (offer-is p s e r)) (in-range p (offerOn (p .timing .ranks) s r .state) (offer-ranged p s r (ranged p s e)))
 
   pub tick-in-range : (s : State) → inRange p s ≡ true → inRange p (tick p s .state) ≡ true
   tick-in-range s e =
@@ -364,7 +373,7 @@ wires-read n b r =
     let offer = due-offer n b r (eqb-false (dueColumn b) 0 due) in
     ap (λ (w : ℕ). wiresOf (columnNumber w)) (word-back (dueColumn b) offer) ∙ wires-column (dueColumn b) offer)
     (λ due goes.
-    let offer = sound-offer n (going b) (going-sound n b r (goes-waits n b r goes)) in
+    let offer = sound-offer n (b .timing .ranks) (going b) (going-sound n b r (goes-waits n b r goes)) in
     ap wiresOf (word-back (going b) offer) ∙ wires-activate (going b) offer)
     (λ due stays. none-read)
 
@@ -372,10 +381,7 @@ pub tick-wires : (p : Policy) (s : State) → inRange p s ≡ true → wiresOf (
 unfolding afterTick silent commandNumber
 tick-wires p s e =
     let reads : Ticked → Type 0 = λ x. wiresOf (commandNumber (x .shown .wires)) ≡ x .shown .wires in
-    let w = ranged p s e in
-    let turns = turnsAt p (s .cycle) (s .queues .lengths) (s .turns) .turns in
-    let small = policy-laws p (w .fit) .order .class-small (turns .owner) (turns-kept p (w .fit) (s .cycle) (s .queues .lengths) (s .turns) (w .turns) .owner-class) in
     ⊎-elim
-    (λ l. subst reads (sym (tick-is p s e l)) (wires-read (p .classes) (busAt p s turns) (bus-range p s w turns small)))
+    (λ l. subst reads (sym (tick-is p s e l)) (wires-read (p .classes) _ (tick-bus p s (ranged p s e))))
     (λ l. subst reads (sym (tick-late p s e l)) none-read)
     (either (ltb (s .cycle) lastCycle))

@@ -8,7 +8,7 @@ use native.Mathlib.Omega.{arith}
 use lib.ListN.{length, getD, set, length-set}
 use Rattle.policy.specs.Laws.{TimingLaws}
 use Rattle.basics.proofs.Stores.{stored-at}
-use Rattle.requests.specs.Word.{kindOf, bankOf}
+use Rattle.requests.specs.Word.{rankOf, kindOf, bankPlace}
 use Rattle.rules.specs.Wire.{activated}
 use Rattle.flight.specs.Flight.{sentAt, activateAt}
 use Rattle.rules.specs.History.{Each, Activates}
@@ -61,19 +61,19 @@ module _ (b : Bus) (laws : TimingLaws (b .timing)) (P Q : ℕ → ℕ → Type 0
 
 -- ---- the last activates, of all and of each bank
 
-pub activates-next : (b : Bus) (P Q : ℕ → Type 0) → ((x : ℕ) → P x → Q x) → length (b .flight .banks) ≡ 8 → (canActivate b ≡ true → (bankOf (going b) < 8) × Q (activateAt (b .cycle) (kindOf (going b)))) → Activates P (b .flight) → Activates Q (answered (b .cycle) (drive b .flight))
+pub activates-next : (b : Bus) (P Q : ℕ → Type 0) → ((x : ℕ) → P x → Q x) → length (b .flight .banks) ≡ 32 → (canActivate b ≡ true → (bankPlace (going b) < 32) × Q (activateAt (b .cycle) (rankOf (going b)) (kindOf (going b)))) → Activates P (b .flight) → Activates Q (answered (b .cycle) (drive b .flight))
 unfolding activated answered
 activates-next b P Q lasts long new h =
     let w = going b in
     let f = b .flight in
-    let at = activateAt (b .cycle) (kindOf w) in
-    let bank : (i : ℕ) → i < 8 → Q (getD (f .banks) i 0) = λ i l. lasts (getD (f .banks) i 0) (h .of-bank i l) in
+    let at = activateAt (b .cycle) (rankOf w) (kindOf w) in
+    let bank : (i : ℕ) → i < 32 → Q (getD (f .banks) i 0) = λ i l. lasts (getD (f .banks) i 0) (h .of-bank i l) in
     outcome b (λ d. Activates Q (answered (b .cycle) (d .flight)))
     (λ due. record { of-all = lasts (f .last) (h .of-all); of-bank = bank })
     (λ due goes.
     record {
       of-all = new goes .1;
       of-bank =
-          λ i l. stored-at Q (f .banks) (bankOf w) at i (subst (λ (k : ℕ). bankOf w < k) (sym long) (new goes .0)) (λ e. new goes .1) (λ e. bank i l);
+          λ i l. stored-at Q (f .banks) (bankPlace w) at i (subst (λ (k : ℕ). bankPlace w < k) (sym long) (new goes .0)) (λ e. new goes .1) (λ e. bank i l);
     })
     (λ due stays. record { of-all = lasts (f .last) (h .of-all); of-bank = bank })

@@ -22,23 +22,23 @@ use Rattle.basics.proofs.Stores.{stored-at}
 use Rattle.basics.proofs.Below.{some-at, first-some, count-under, count-either}
 use Rattle.order.proofs.Orders.{apart-strictly}
 use Rattle.policy.proofs.Laws.{policy-laws}
-use Rattle.requests.specs.Word.{kindOf, bankOf, commandNumber}
-use Rattle.requests.proofs.Word.{word-back}
+use Rattle.requests.specs.Word.{rankOf, kindOf, bankPlace, commandNumber}
+use Rattle.requests.proofs.Word.{place-small, word-back}
 use Rattle.queues.specs.Waiting.{lengthOf, passedOf, waitingAt}
 use Rattle.queues.specs.declared.Queues.{Queues}
-use Rattle.flight.specs.Flight.{dueAt, sentAt, activateKind}
+use Rattle.flight.specs.Flight.{dueAt, sentAt}
 use Rattle.flight.specs.declared.Flight.{Flight}
 use Rattle.state.specs.Fresh.{freshState}
 use Rattle.state.specs.declared.State.{State}
 use Rattle.state.specs.declared.Turns.{Turns}
 use Rattle.rules.specs.Traversal.{firstClass}
 use Rattle.rules.specs.Step.{TurnStart, turnsAt, Driven, Bus, dueColumn, mayGo, goesAt, going, canActivate, requestSent, drive, answered as afterAnswer}
-use Rattle.rules.specs.Wire.{gapMet, gapsMetBy, gapsMet, offsetAllows}
+use Rattle.rules.specs.Wire.{gapMet, gapsMet, offsetAllows}
 use Rattle.rules.specs.History.{Activates}
 use Rattle.rules.specs.Call.{busAt, afterTick}
 use Rattle.rules.specs.Calls.{Answer, lineOf, answerTo, logOf}
 use Rattle.rules.specs.Guarantees.{ticksIn, atTick, TickMade, firstTick, Started, Ended, Waits, owns, ownedIn, ActivatedAt, ActivatedIn, OwnTurn, Guarantees}
-use Rattle.rules.proofs.Wire.{gap-shift, kind-small}
+use Rattle.rules.proofs.Wire.{gap-shift, gaps-rested}
 use Rattle.rules.proofs.PendingWords.{inside}
 use Rattle.rules.proofs.Step.{drive-column, drive-nothing, drive-activate}
 use Rattle.rules.proofs.Range.{FlightRange, ranged, BusRange, bus-range, goes-waits, waiting-sound, going-sound, sound-offer, sound-bank, sound-kind}
@@ -238,7 +238,7 @@ module _ (p : Policy) (given : policyInRange p ≡ true) where
 
           sent : (d : Driven) → d ≡ requestSent bus → commandNumber (d .wires) ≡ going bus
           unfolding commandNumber
-          sent d e = ap (λ (x : Driven). commandNumber (x .wires)) e ∙ word-back (going bus) (sound-offer (p .classes) (going bus) (going-sound (p .classes) bus sound goes-there))
+          sent d e = ap (λ (x : Driven). commandNumber (x .wires)) e ∙ word-back (going bus) (sound-offer (p .classes) (p .timing .ranks) (going bus) (going-sound (p .classes) bus sound goes-there))
 
           activates : ActivatedAt p ws t c
           unfolding afterTick going
@@ -299,7 +299,7 @@ module _ (p : Policy) (given : policyInRange p ≡ true) where
 
         -- at the latest tick nothing holds the oldest back, so one goes
         at-latest : i ≡ dead - 1 → ActivatedAt p ws t c
-        unfolding canActivate goesAt mayGo offsetAllows gapsMet gapsMetBy
+        unfolding canActivate goesAt mayGo offsetAllows gapsMet
         at-latest e =
             let cycle : s .cycle ≡ latest = list.at p given ws t under .number ∙ ap (λ (x : ℕ). first + x) e in
             let none : eqb (dueColumn bus) 0 ≡ true = eq-eqb (dueColumn bus) 0 (ap (dueAt (s .flight .columns)) cycle ∙ still .clear) in
@@ -307,17 +307,13 @@ module _ (p : Policy) (given : policyInRange p ≡ true) where
             let some-waits : 0 < waiting = subst (λ (x : ℕ). 0 < lengthOf (s .queues) x) (sym has) (lt-of-le-ne zero-le (λ z. still .waiting (sym z))) in
             let oldest = waitingAt (s .queues) (turns .owner) 0 in
             let word = waiting-sound (p .classes) bus sound 0 some-waits in
-            let kind = sound-kind (p .classes) oldest word in
-            let bank = sound-bank (p .classes) oldest word in
-            let of-bank = getD (s .flight .banks) (bankOf oldest) 0 in
-            let met : (last gap : ℕ) → gap ≤ dead → gapMet last dead latest ≡ true → gapMet last gap (s .cycle) ≡ true =
-            λ last gap short rests. gap-shift last dead gap latest (s .cycle) (omega (arith, short, cycle)) rests
-            in
-            let number : 2 * activateKind (s .flight .last) + kindOf oldest < 4 = omega (arith, kind, kind-small (s .flight .last)) in
+            let kind = sound-kind (p .classes) (p .timing .ranks) oldest word in
+            let bank = sound-bank (p .classes) (p .timing .ranks) oldest word in
+            let rests : (last : ℕ) → gapMet last dead latest ≡ true → gapMet last dead (s .cycle) ≡ true = λ last. gap-shift last dead dead latest (s .cycle) (omega (arith, cycle)) in
+            let of-bank = getD (s .flight .banks) (bankPlace oldest) 0 in
             let gaps =
-            and-both
-            (met (s .flight .last) (getD (p .timing .gaps) (2 * activateKind (s .flight .last) + kindOf oldest) 0) (timed .gaps-bounds (2 * activateKind (s .flight .last) + kindOf oldest) number .1) (still .rested .of-all))
-            (met of-bank (getD (p .timing .bank) (activateKind of-bank) 0) (timed .bank-bounds (activateKind of-bank) (kind-small of-bank) .1) (still .rested .of-bank (bankOf oldest) bank))
+            gaps-rested (p .timing) timed (s .cycle) (s .flight .last) of-bank (rankOf oldest) (kindOf oldest) kind
+            (rests (s .flight .last) (still .rested .of-all)) (rests of-bank (still .rested .of-bank (bankPlace oldest) (place-small oldest bank)))
             in
             let offset : s .cycle % turn ≡ dead - 1 = ap (λ (x : ℕ). x % turn) cycle ∙ mul-add-mod-self-right k turn (dead - 1) ∙ mod-eq-of-lt (omega (arith, timed .dead-below-turn)) in
             let allowed = or-right (turns .elided) (ltb (s .cycle % turn) (turn - dead)) (lt-ltb (s .cycle % turn) (turn - dead) (omega (arith, offset, twice, timed .dead-bounds .0))) in

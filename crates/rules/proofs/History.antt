@@ -14,7 +14,7 @@ use Rattle.policy.specs.declared.Policy.{Policy}
 use Rattle.basics.proofs.Truth.{either, not-both, and-left, or-cases, on-true, on-false}
 use Rattle.policy.proofs.Laws.{policy-laws}
 use Rattle.requests.specs.Sizes.{lastCycle}
-use Rattle.requests.specs.Word.{classOf, kindOf, soundWord}
+use Rattle.requests.specs.Word.{classOf, rankOf, kindOf, soundWord}
 use Rattle.queues.specs.Waiting.{lengthOf, rightWord}
 use Rattle.rules.specs.Lookahead.{elides}
 use Rattle.rules.specs.Wire.{gapMet, offsetAllows}
@@ -31,6 +31,7 @@ use Rattle.state.specs.declared.Offered.{Offered}
 use Rattle.state.specs.declared.Ticked.{Ticked}
 use Rattle.rules.proofs.Lookahead.{elision}
 use Rattle.rules.proofs.Wire.{gap-shift, gap-new, gap-none, Before}
+use Rattle.requests.proofs.Word.{rank-small, place-small}
 use Rattle.rules.proofs.Range.{sound-bank, sound-kind, right-sound, right-class, Fits, Ranged, ranged, BusRange, bus-range, goes-waits, going-right}
 use Rattle.rules.proofs.PendingWords.{Later, each-map}
 use Rattle.rules.proofs.FlightKept.{columns-next, responses-next, activates-next}
@@ -101,10 +102,10 @@ module _ (p : Policy) (given : policyInRange p ≡ true) where
         let u = until-start p two t e .1 in
         record {
           column =
-              each-map (Fits (p .classes) (p .timing .column)) (λ d x. d < untilTurn p (t + 1) + 1) t (s .flight .columns)
+              each-map (Fits (p .classes) (p .timing .ranks) (p .timing .column)) (λ d x. d < untilTurn p (t + 1) + 1) t (s .flight .columns)
               (λ d x f. omega (arith, f .0, u, laws .column-bounds .1, laws .response-bounds .1, laws .dead-below-turn)) (w .flight .columns-due);
           response =
-              each-map (Fits (p .classes) (p .timing .response)) (λ d x. d < untilTurn p (t + 1) + 1) t (s .flight .responses)
+              each-map (Fits (p .classes) (p .timing .ranks) (p .timing .response)) (λ d x. d < untilTurn p (t + 1) + 1) t (s .flight .responses)
               (λ d x f. omega (arith, f .0, u, laws .response-bounds .1, laws .dead-below-turn)) (w .flight .responses-due);
         }
 
@@ -156,16 +157,16 @@ module _ (p : Policy) (given : policyInRange p ≡ true) where
     ranges : BusRange (p .classes) bus
     ranges = bus-range p s w turns (policy-laws p given .order .class-small (turns .owner) owner-class)
 
-    right : goes → rightWord (p .classes) (turns .owner) (going bus) ≡ true
+    right : goes → rightWord (p .classes) (p .timing .ranks) (turns .owner) (going bus) ≡ true
     right e = going-right (p .classes) bus ranges (goes-waits (p .classes) bus ranges e)
 
-    sound : goes → soundWord (p .classes) (going bus) ≡ true
-    sound e = right-sound (p .classes) (turns .owner) (going bus) (right e)
+    sound : goes → soundWord (p .classes) (p .timing .ranks) (going bus) ≡ true
+    sound e = right-sound (p .classes) (p .timing .ranks) (turns .owner) (going bus) (right e)
 
     -- what is activated is the owner's
     going-flows : goes → flows p (classOf (going bus)) (turns .owner) ≡ true
     going-flows e =
-        subst (λ (c : ℕ). flows p c (turns .owner) ≡ true) (sym (right-class (p .classes) (turns .owner) (going bus) (right e)))
+        subst (λ (c : ℕ). flows p c (turns .owner) ≡ true) (sym (right-class (p .classes) (p .timing .ranks) (turns .owner) (going bus) (right e)))
         (policy-laws p given .order .reflexive (turns .owner) owner-class)
 
     -- and where the dead time is kept, it is activated that long before the next turn
@@ -204,7 +205,12 @@ module _ (p : Policy) (given : policyInRange p ≡ true) where
     next-rested kept =
         let met : ℕ → Type 0 = λ last. gapMet last dead (t + 1 + untilTurn p (t + 1)) ≡ true in
         activates-next bus met met (λ x m. m) (w .flight .banks-long)
-        (λ e. (sound-bank (p .classes) (going bus) (sound e), gap-new (kindOf (going bus)) dead t (t + 1 + untilTurn p (t + 1)) (sound-kind (p .classes) (going bus) (sound e)) (omega (arith, going-far kept e))))
+        (λ e.
+        let g = going bus in
+        let word = sound e in (
+          place-small g (sound-bank (p .classes) (p .timing .ranks) g word),
+          gap-new (rankOf g) (kindOf g) dead t (t + 1 + untilTurn p (t + 1)) (rank-small g) (sound-kind (p .classes) (p .timing .ranks) g word) (omega (arith, going-far kept e)),
+        ))
         (midway .rested kept)
 
     tick-held : t < lastCycle → inRange p (afterTick p s .state) ≡ true → Held p (afterTick p s .state)
@@ -222,7 +228,7 @@ module _ (p : Policy) (given : policyInRange p ≡ true) where
 
     -- ---- an offer changes neither the turns nor what is in flight
 
-    offer-held : (r : Request) → inRange p (offerOn s r .state) ≡ true → Held p (offerOn s r .state)
+    offer-held : (r : Request) → inRange p (offerOn (p .timing .ranks) s r .state) ≡ true → Held p (offerOn (p .timing .ranks) s r .state)
     unfolding offerOn
     offer-held r ranges =
         record { ranges = ranges; flowing = h .flowing; begun = h .begun; stands = h .stands; drained = h .drained; rested = h .rested }
@@ -236,7 +242,7 @@ module _ (p : Policy) (given : policyInRange p ≡ true) where
         begun = λ x. absurd (not-both x refl);
         stands = λ x. absurd (not-both x refl);
         drained = λ x. record { column = λ d l. inl (none-due (0 + d)); response = λ d l. inl (none-due (0 + d)) };
-        rested = λ x. record { of-all = gap-none dead (0 + untilTurn p 0); of-bank = λ b l. ap (λ (last : ℕ). gapMet last dead (0 + untilTurn p 0)) (zero-at 8 b) ∙ gap-none dead (0 + untilTurn p 0) };
+        rested = λ x. record { of-all = gap-none dead (0 + untilTurn p 0); of-bank = λ b l. ap (λ (last : ℕ). gapMet last dead (0 + untilTurn p 0)) (zero-at 32 b) ∙ gap-none dead (0 + untilTurn p 0) };
       }
 
   pub held : (s : State) → FromFresh p s → Held p s

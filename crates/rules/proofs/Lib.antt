@@ -52,3 +52,5 @@ pub mod TurnsLeft
 pub mod Guarantees
 -- of requests that pass older ones, as `specs/Overtaking.antt` states it
 pub mod Overtaking
+-- of ranks, as `specs/Ranks.antt` states it
+pub mod Ranks

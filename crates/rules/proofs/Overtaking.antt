@@ -5,7 +5,7 @@ use mathlib.Core.Path.{_≡_, refl, sym, ap, ap₂, _∙_, subst}
 use mathlib.Core.Logic.{_⊎_, _≢_, inl, inr, ⊎-elim}
 use mathlib.Core.Bool.{Bool, true, false, cond, _&&_, _||_}
 use mathlib.Core.List.{List, [], _∷_, _++_, append-assoc, append-nil}
-use Prim.Native.Nat.{ℕ, zero, suc, _+_, _-_, _≤_, _<_, zero-le, suc-le-suc}
+use Prim.Native.Nat.{ℕ, zero, suc, _+_, _-_, _*_, _≤_, _<_, zero-le, suc-le-suc}
 use native.Mathlib.Nat.{not-suc-le-zero}
 use native.Mathlib.Omega.{arith}
 use borrow.Author.Tests.{eqb-true, eqb-false, eq-eqb, lt-ltb}
@@ -15,13 +15,12 @@ use lib.ListN.{length, getD, take, drop, length-append}
 use lib.Seq.{split-at, getD-take, length-take-le}
 use Rattle.policy.specs.Policy.{isClass, inRange as policyInRange}
 use Rattle.policy.specs.declared.Policy.{Policy}
-use Rattle.basics.proofs.Truth.{either, false-unless, not-both, and-left, and-right, and-both, and-fails-left, and-fails-right, or-right, on-true, on-false}
+use Rattle.basics.proofs.Truth.{either, false-unless, not-both, and-left, and-right, and-both, and-four, and-fails-left, and-fails-right, or-right, on-true, on-false}
 use Rattle.basics.specs.Below.{listOf}
 use Rattle.basics.proofs.Below.{length-listOf, getD-listOf}
 use Rattle.policy.proofs.Laws.{policy-laws}
 use Rattle.requests.specs.Sizes.{lastCycle}
-use Rattle.requests.specs.Word.{classOf, kindOf, bankOf, requestOf, wordOf, isOffer, classFits, bankAndKindFit, columnNumber, commandNumber}
-use Rattle.requests.specs.Trace.{callOf}
+use Rattle.requests.specs.Word.{classOf, rankOf, kindOf, bankOf, bankPlace, requestOf, wordOf, isOffer, classFits, bankKindRankFit, columnNumber, commandNumber}
 use Rattle.requests.specs.declared.Request.{Request}
 use Rattle.requests.proofs.Word.{word-back, column-no-offer}
 use Rattle.queues.specs.Waiting.{lengthOf, passedOf, waitingAt, waiting}
@@ -39,9 +38,8 @@ use Rattle.rules.specs.Overtaking.{onlyIf, those, ofClass, ofStream, tak
 use Rattle.rules.proofs.Queue.{enqueue-passed, enqueue-end, enqueue-beside, dequeue-closes, dequeue-beside, dequeue-passed, dequeue-else-passed}
 use Rattle.rules.proofs.Step.{turn-owner, outcome}
 use Rattle.rules.proofs.Range.{ranged, small-classes, right-class, sound-offer, BusRange, bus-range, goes-waits, goes-first, goes-past, going-right, going-sound, due-offer}
-use Rattle.rules.proofs.Call.{offer-is, tick-late, called-offer, called-malformed}
-use Rattle.rules.proofs.CallsKept.{below-sixteen, room, taken, zero-at, fresh-fits}
-use Rattle.rules.proofs.SingleCalls.{tick-called, tick-answered}
+use Rattle.rules.proofs.CallsKept.{below-sixteen, room, taken, tick-bus, zero-at, fresh-fits}
+use Rattle.rules.proofs.SingleCalls.{any-call}
 use Rattle.rules.proofs.Calls.{answered-in-range, after-in-range}
 
 -- ---- those numbers of a list at which a test passes
@@ -64,11 +62,11 @@ module _ (f : ℕ → Bool) where
   those-if true w = append-nil (onlyIf (f w) w)
   those-if false w = refl
 
-only : (b : Bool) (w : ℕ) → b ≡ true → onlyIf b w ≡ w ∷ []
+pub only : (b : Bool) (w : ℕ) → b ≡ true → onlyIf b w ≡ w ∷ []
 unfolding onlyIf
 only b w e = rw e
 
-none-of : (b : Bool) (w : ℕ) → b ≡ false → onlyIf b w ≡ []
+pub none-of : (b : Bool) (w : ℕ) → b ≡ false → onlyIf b w ≡ []
 unfolding onlyIf
 none-of b w e = rw e
 
@@ -105,7 +103,7 @@ module _ (p : Policy) (c : ℕ) (s : State) (w : ℕ) where
     its : a .command ≡ waitingAt (s .queues) c place
     sound : isOffer (a .command) ≡ true
     class : classOf (a .command) ≡ c
-    others : (j : ℕ) → j < place → bankOf (waitingAt (s .queues) c j) ≡ bankOf (a .command) → kindOf (waitingAt (s .queues) c j) ≡ kindOf (a .command) → ⊥
+    others : (j : ℕ) → j < place → rankOf (waitingAt (s .queues) c j) ≡ rankOf (a .command) → bankOf (waitingAt (s .queues) c j) ≡ bankOf (a .command) → kindOf (waitingAt (s .queues) c j) ≡ kindOf (a .command) → ⊥
     few : ((place ≡ 0) → ⊥) → passedOf (s .queues) c < 15
     no-offer : isOffer w ≡ false
     requests : waiting (a .state .queues) c ≡ take place (waiting (s .queues) c) ++ drop (place + 1) (waiting (s .queues) c)
@@ -132,7 +130,7 @@ module _ (p : Policy) (c : ℕ) (s : State) (w : ℕ) where
         count = ap (λ (q : Queues). passedOf q c) same;
       }
 
-zero-no-offer : isOffer 0 ≡ false
+pub zero-no-offer : isOffer 0 ≡ false
 unfolding isOffer
 zero-no-offer = refl
 
@@ -147,7 +145,7 @@ module _ (p : Policy) (c : ℕ) (s : State) (w : ℕ) (fits : inRange p s ≡ tr
   made = requestOf w
 
   abbrev left-by : Answer
-  left-by = offered (offerOn s made)
+  left-by = offered (offerOn (p .timing .ranks) s made)
 
   -- the word's class is the request's
   its-class : ofClass c w ≡ eqb (made .class) c
@@ -160,12 +158,12 @@ module _ (p : Policy) (c : ℕ) (s : State) (w : ℕ) (fits : inRange p s ≡ tr
       let q = s .queues in
       let d = made .class in
       let n = s .classes in
-      let status = eqb (offerStatus n (q .lengths) made) 0 in
+      let status = eqb (offerStatus n (p .timing .ranks) (q .lengths) made) 0 in
       let after = enqueue q d (wordOf made) in
       let r = ranged p s fits in
       ⊎-elim
       (λ e.
-      let ok = taken (classFits n made) (bankAndKindFit made) (ltb (getD (q .lengths) d 0) 8) e in
+      let ok = taken (classFits n made) (bankKindRankFit (p .timing .ranks) made) (ltb (getD (q .lengths) d 0) 8) e in
       let small = below-sixteen n made (small-classes p s r) (ok .0) in
       let now : left-by .state .queues ≡ after = on-true status after q e in
       let kept : (isOffer w && status) ≡ true = and-both offer e in
@@ -208,10 +206,7 @@ module _ (p : Policy) (c : ℕ) (small : c < 16) (s : State) (fits : inRange p s
   q = s .queues
 
   range : BusRange (p .classes) bus
-  range =
-      let r = ranged p s fits in
-      let laws = policy-laws p (r .fit) in
-      bus-range p s r (start .turns) (turn-owner p (r .fit) (s .cycle) (s .queues .lengths) (s .turns) (laws .order .class-small (s .turns .owner) (r .turns .owner-class)))
+  range = tick-bus p s (ranged p s fits)
 
   -- what a tick answers, of what the second step left
   abbrev answers : Driven → Answer
@@ -229,23 +224,25 @@ module _ (p : Policy) (c : ℕ) (small : c < 16) (s : State) (fits : inRange p s
     there = goes-waits (p .classes) bus range goes
 
     offers : isOffer (going bus) ≡ true
-    offers = sound-offer (p .classes) (going bus) (going-sound (p .classes) bus range there)
+    offers = sound-offer (p .classes) (p .timing .ranks) (going bus) (going-sound (p .classes) bus range there)
 
-    -- of requests with one bank and one kind the gaps are met together
-    together : (j : ℕ) → bankOf (waitingAt q owner j) ≡ bankOf (going bus) → kindOf (waitingAt q owner j) ≡ kindOf (going bus)
+    -- of requests with one rank, one bank and one kind the gaps are met together
+    together : (j : ℕ) → rankOf (waitingAt q owner j) ≡ rankOf (going bus) → bankOf (waitingAt q owner j) ≡ bankOf (going bus) → kindOf (waitingAt q owner j) ≡ kindOf (going bus)
         → gapsMet (p .timing) (s .flight) (waitingAt q owner j) (s .cycle) ≡ gapsMet (p .timing) (s .flight) (going bus) (s .cycle)
-    unfolding gapsMet
-    together j bank kind = ap₂ (λ (b k : ℕ). gapsMetBy (p .timing) (s .flight .last) (getD (s .flight .banks) b 0) k (s .cycle)) bank kind
+    unfolding gapsMet bankPlace
+    together j rank bank kind =
+        ap₂ (λ (r b : ℕ). gapsMetBy (p .timing) (s .flight .last) (getD (s .flight .banks) (8 * r + b) 0) r (kindOf (waitingAt q owner j)) (s .cycle)) rank bank
+        ∙ ap (λ (k : ℕ). gapsMetBy (p .timing) (s .flight .last) (getD (s .flight .banks) (bankPlace (going bus)) 0) (rankOf (going bus)) k (s .cycle)) kind
 
-    -- so none older with the bank and kind of the one that goes waits: it would go
-    none-older : (j : ℕ) → j < goesAt bus → bankOf (waitingAt q owner j) ≡ bankOf (going bus) → kindOf (waitingAt q owner j) ≡ kindOf (going bus) → ⊥
+    -- so none older with the rank, bank and kind of the one that goes waits: it would go
+    none-older : (j : ℕ) → j < goesAt bus → rankOf (waitingAt q owner j) ≡ rankOf (going bus) → bankOf (waitingAt q owner j) ≡ bankOf (going bus) → kindOf (waitingAt q owner j) ≡ kindOf (going bus) → ⊥
     unfolding mayGo going
-    none-older j older bank kind =
+    none-older j older rank bank kind =
         let k = goesAt bus in
         let first = goes-first (p .classes) bus range goes in
         let few = goes-past (p .classes) bus range goes (λ e. not-suc-le-zero {n = j} (subst (λ (n : ℕ). j < n) e older)) in
         let met = and-right (eqb k 0 || ltb (passedOf q owner) 15) (gapsMet (p .timing) (s .flight) (going bus) (s .cycle)) (first .passes) in
-        not-both (and-both (or-right (eqb j 0) (ltb (passedOf q owner) 15) (lt-ltb (passedOf q owner) 15 few)) (together j bank kind ∙ met)) (first .fails-before j older)
+        not-both (and-both (or-right (eqb j 0) (ltb (passedOf q owner) 15) (lt-ltb (passedOf q owner) 15 few)) (together j rank bank kind ∙ met)) (first .fails-before j older)
 
     -- the command is its word
     sent : commandNumber (requestSent bus .wires) ≡ going bus
@@ -253,7 +250,7 @@ module _ (p : Policy) (c : ℕ) (small : c < 16) (s : State) (fits : inRange p s
     sent = word-back (going bus) offers
 
     class-sent : classOf (commandNumber (requestSent bus .wires)) ≡ owner
-    class-sent = ap classOf sent ∙ right-class (p .classes) owner (going bus) (going-right (p .classes) bus range there)
+    class-sent = ap classOf sent ∙ right-class (p .classes) (p .timing .ranks) owner (going bus) (going-right (p .classes) bus range there)
 
     owner-goes : Goes p owner s 0 (answers (requestSent bus))
     unfolding going
@@ -267,7 +264,7 @@ module _ (p : Policy) (c : ℕ) (small : c < 16) (s : State) (fits : inRange p s
           its = sent;
           sound = ap isOffer sent ∙ offers;
           class = class-sent;
-          others = λ j older bank kind. none-older j older (bank ∙ ap bankOf sent) (kind ∙ ap kindOf sent);
+          others = λ j older rank bank kind. none-older j older (rank ∙ ap rankOf sent) (bank ∙ ap bankOf sent) (kind ∙ ap kindOf sent);
           few = goes-past (p .classes) bus range goes;
           no-offer = zero-no-offer;
           requests = dequeue-closes q owner (range .owner-small) (r .slots-long) (r .heads-long) (r .lengths-long) k there (r .queue owner (range .owner-small) .short);
@@ -304,40 +301,33 @@ module _ (p : Policy) (c : ℕ) (small : c < 16) (s : State) (fits : inRange p s
 -- ---- any call
 
 one-call : (p : Policy) (c : ℕ) → c < 16 → (s : State) (w : ℕ) → inRange p s ≡ true → Seen p c s w (answerTo p s w)
-unfolding callOf afterTick silent commandNumber
+unfolding afterTick silent commandNumber
 one-call p c small s w fits =
-    let seen : Answer → Type 0 = Seen p c s w in
-    ⊎-elim
-    (λ tick.
-    let zero = eqb-true w 0 tick in
-    subst (λ (x : ℕ). Seen p c s x (answerTo p s x)) (sym zero)
-    (⊎-elim
-    (λ left. subst (Seen p c s 0) (sym (tick-answered p s fits left)) (tick-seen p c small s fits))
-    (λ late. subst (Seen p c s 0) (sym (tick-called p s ∙ ap ticked (tick-late p s fits late))) (inl (still p c s 0 _ refl zero-no-offer (no-offer 12))))
-    (either (ltb (s .cycle) lastCycle))))
-    (λ other.
-    ⊎-elim
-    (λ offer.
-    subst seen (sym (called-offer p s w (requestOf w) (on-false (eqb w 0) _ _ other ∙ on-true (isOffer w) _ _ offer) ∙ ap offered (offer-is p s fits (requestOf w)))) (inl (offer-quiet p c s w fits offer)))
-    (λ none.
-    subst seen (sym (called-malformed p s w (on-false (eqb w 0) _ _ other ∙ on-false (isOffer w) _ _ none))) (inl (still p c s w _ refl zero-no-offer (and-fails-left (isOffer w) (eqb 14 0) none))))
-    (either (isOffer w)))
-    (either (eqb w 0))
+    any-call p s fits (Seen p c s) (λ left. tick-seen p c small s fits)
+    (λ late. inl (still p c s 0 _ refl zero-no-offer (no-offer 12)))
+    (λ x other offer. inl (offer-quiet p c s x fits offer))
+    (λ x other none. inl (still p c s x _ refl zero-no-offer (and-fails-left (isOffer x) (eqb 14 0) none)))
+    w
 
--- ---- order within a bank and kind
+-- ---- order within a rank, bank and kind
 
--- a request of a class's bank and kind is one of the class's
-stream-class : (c bank kind w : ℕ) → ofStream c bank kind w ≡ true → ofClass c w ≡ true
-unfolding ofStream
-stream-class c bank kind w e = and-left (ofClass c w) (eqb (bankOf w) bank) (and-left (ofClass c w && eqb (bankOf w) bank) _ e)
+module _ (c rank bank kind w : ℕ) (e : ofStream c rank bank kind w ≡ true) where
+  -- a request of a class's rank, bank and kind is one of the class's, and has them
+  parts : (ofClass c w ≡ true) × (eqb (rankOf w) rank ≡ true) × (eqb (bankOf w) bank ≡ true) × (eqb (kindOf w) kind ≡ true)
+  unfolding ofStream
+  parts = and-four (ofClass c w) (eqb (rankOf w) rank) (eqb (bankOf w) bank) (eqb (kindOf w) kind) e
 
-stream-bank : (c bank kind w : ℕ) → ofStream c bank kind w ≡ true → bankOf w ≡ bank
-unfolding ofStream
-stream-bank c bank kind w e = eqb-true (bankOf w) bank (and-right (ofClass c w) (eqb (bankOf w) bank) (and-left (ofClass c w && eqb (bankOf w) bank) _ e))
+  stream-class : ofClass c w ≡ true
+  stream-class = parts .0
 
-stream-kind : (c bank kind w : ℕ) → ofStream c bank kind w ≡ true → kindOf w ≡ kind
-unfolding ofStream
-stream-kind c bank kind w e = eqb-true (kindOf w) kind (and-right (ofClass c w && eqb (bankOf w) bank) _ e)
+  stream-rank : rankOf w ≡ rank
+  stream-rank = eqb-true (rankOf w) rank (parts .1)
+
+  stream-bank : bankOf w ≡ bank
+  stream-bank = eqb-true (bankOf w) bank (parts .2)
+
+  stream-kind : kindOf w ≡ kind
+  stream-kind = eqb-true (kindOf w) kind (parts .3)
 
 -- a test that passes only where another does: asking the other first makes no difference
 asked-before : (a b x : Bool) → ((x ≡ true) → b ≡ true) → (a && b && x) ≡ (a && x)
@@ -345,7 +335,7 @@ asked-before true b true h = ap (λ (y : Bool). true && y && true) (h refl)
 asked-before false b true h = refl
 asked-before a b false h = and-fails-right (a && b) false refl ∙ sym (and-fails-right a false refl)
 
--- a request goes past older ones, or there is none of its bank and kind among them
+-- a request goes past older ones, or there is none of its rank, bank and kind among them
 pass : (older one younger : List ℕ) → (older ≡ []) ⊎ (one ≡ []) → (older ++ (one ++ younger)) ++ [] ≡ one ++ (older ++ younger)
 pass older one younger apart =
     append-nil (older ++ (one ++ younger))
@@ -354,9 +344,9 @@ pass older one younger apart =
     (λ e. ap (λ (l : List ℕ). older ++ (l ++ younger)) e ∙ sym (ap (λ (l : List ℕ). l ++ (older ++ younger)) e))
     apart
 
-module _ (p : Policy) (c : ℕ) (small : c < 16) (bank kind : ℕ) where
+module _ (p : Policy) (c : ℕ) (small : c < 16) (rank bank kind : ℕ) where
   abbrev stream : ℕ → Bool
-  stream = ofStream c bank kind
+  stream = ofStream c rank bank kind
 
   -- one call: what waited and what was taken is what was activated and what waits
   one-step : (s : State) (w : ℕ) (a : Answer) → Seen p c s w a
@@ -367,11 +357,11 @@ module _ (p : Policy) (c : ℕ) (small : c < 16) (bank kind : ℕ) where
       let new : those stream (those (ofClass c) (onlyIf b w)) ≡ those stream (onlyIf b w) =
       ap (those stream) (those-if (ofClass c) b w)
       ∙ those-if stream (b && ofClass c w) w
-      ∙ ap (λ (x : Bool). onlyIf x w) (asked-before b (ofClass c w) (stream w) (stream-class c bank kind w))
+      ∙ ap (λ (x : Bool). onlyIf x w) (asked-before b (ofClass c w) (stream w) (stream-class c rank bank kind w))
       ∙ sym (those-if stream b w)
       in
       sym
-      (ap (λ (l : List ℕ). l ++ those stream (waiting (a .state .queues) c)) (none-goes p c s w a quiet stream (stream-class c bank kind))
+      (ap (λ (l : List ℕ). l ++ those stream (waiting (a .state .queues) c)) (none-goes p c s w a quiet stream (stream-class c rank bank kind))
       ∙ ap (those stream) (quiet .requests)
       ∙ those-append stream (waiting (s .queues) c) (those (ofClass c) (onlyIf b w))
       ∙ ap (λ (l : List ℕ). those stream (waiting (s .queues) c) ++ l) new)
@@ -408,7 +398,8 @@ module _ (p : Policy) (c : ℕ) (small : c < 16) (bank kind : ℕ) where
       false-unless (stream (getD older i 0))
       (λ t.
       let same = subst (λ (x : ℕ). stream x ≡ true) at t in
-      goes .others i before (stream-bank c bank kind (waitingAt q c i) same ∙ sym (stream-bank c bank kind its yes)) (stream-kind c bank kind (waitingAt q c i) same ∙ sym (stream-kind c bank kind its yes))))))
+      let agree : (f : ℕ → ℕ) (x : ℕ) → ((v : ℕ) → stream v ≡ true → f v ≡ x) → f (waitingAt q c i) ≡ f its = λ f x has. has (waitingAt q c i) same ∙ sym (has its yes) in
+      goes .others i before (agree rankOf rank (stream-rank c rank bank kind)) (agree bankOf bank (stream-bank c rank bank kind)) (agree kindOf kind (stream-kind c rank bank kind))))))
       (λ no. inr (none-of (stream its) its no))
       (either (stream its))
       in
@@ -500,9 +491,9 @@ overtaking p given =
     let small : (c : ℕ) → isClass p c ≡ true → c < 16 = policy-laws p given .order .class-small in
     record {
       in-order =
-          λ ws c bank kind class.
-          ap (λ (l : List ℕ). those (ofStream c bank kind) l ++ those (ofStream c bank kind) (takenOffers ws (logOf p (freshState p) ws))) (sym (none-waits p c))
-          ∙ ordered p c (small c class) bank kind ws (freshState p) fits;
+          λ ws c rank bank kind class.
+          ap (λ (l : List ℕ). those (ofStream c rank bank kind) l ++ those (ofStream c rank bank kind) (takenOffers ws (logOf p (freshState p) ws))) (sym (none-waits p c))
+          ∙ ordered p c (small c class) rank bank kind ws (freshState p) fits;
       at-most-15-pass =
           λ ws more c oldest rest class waits none.
           omega (arith, passing p c (small c class) oldest more (stateAfter p (freshState p) ws) rest (after-in-range p (freshState p) ws fits) waits none);

@@ -21,7 +21,7 @@ use Rattle.basics.proofs.Truth.{not-both, and-left, and-right, and-three, and-b
 use Rattle.basics.specs.Below.{first}
 use Rattle.basics.proofs.Below.{lt-or-ge, every-at, every-all, First, first-found, first-some}
 use Rattle.policy.proofs.Laws.{policy-laws}
-use Rattle.requests.specs.Word.{classOf, kindOf, bankOf, requestOf, isOffer, classFits, bankAndKindFit, soundWord}
+use Rattle.requests.specs.Word.{classOf, rankOf, kindOf, bankOf, requestOf, isOffer, classFits, bankKindRankFit, soundWord}
 use Rattle.queues.specs.Waiting.{headOf, lengthOf, passedOf, place, waitingAt, rightWord, ringInRange, queueInRange}
 use Rattle.flight.specs.Flight.{dueAt, activateInRange, pendingInRange, flightInRange}
 use Rattle.rules.specs.Wire.{offsetAllows}
@@ -31,6 +31,7 @@ use Rattle.rules.specs.Ready.{Ready}
 use Rattle.requests.specs.Sizes.{lastCycle}
 use Rattle.rules.specs.Step.{Bus, dueColumn, mayGo, goesAt, going, canActivate}
 use Rattle.rules.specs.Call.{busAt}
+use Rattle.requests.specs.declared.Request.{Request}
 use Rattle.queues.specs.declared.Queues.{Queues}
 use Rattle.state.specs.declared.Turns.{Turns}
 use Rattle.flight.specs.declared.Flight.{Flight}
@@ -43,47 +44,59 @@ both {a} {b} e = (and-left a b e, and-right a b e)
 
 -- ---- words
 
--- a sound word is an offer, and has a bank and a kind
-pub sound-offer : (n w : ℕ) → soundWord n w ≡ true → isOffer w ≡ true
+-- a sound word is an offer, and has a bank, a kind and a rank
+pub sound-offer : (n ranks w : ℕ) → soundWord n ranks w ≡ true → isOffer w ≡ true
 unfolding soundWord
-sound-offer n w e = and-three (isOffer w) (classFits n (requestOf w)) (bankAndKindFit (requestOf w)) e .0
+sound-offer n ranks w e = and-three (isOffer w) (classFits n (requestOf w)) (bankKindRankFit ranks (requestOf w)) e .0
 
-pub sound-bank : (n w : ℕ) → soundWord n w ≡ true → bankOf w < 8
-unfolding soundWord bankAndKindFit requestOf
-sound-bank n w e =
-    let fit = and-right (isOffer w && classFits n (requestOf w)) (bankAndKindFit (requestOf w)) e in
-    omega (arith, leb-true (bankOf w) 7 (and-left (leb (bankOf w) 7) (leb (kindOf w) 1) fit))
+-- what 10 lets through
+pub fit-bounds : (ranks : ℕ) (r : Request) → bankKindRankFit ranks r ≡ true → (r .bank ≤ 7) × (r .kind ≤ 1) × (r .rank < ranks)
+unfolding bankKindRankFit
+fit-bounds ranks r e =
+    let fits = and-three (leb (r .bank) 7) (leb (r .kind) 1) (ltb (r .rank) ranks) e in
+    (leb-true (r .bank) 7 (fits .0), leb-true (r .kind) 1 (fits .1), ltb-true (r .rank) ranks (fits .2))
 
-pub sound-kind : (n w : ℕ) → soundWord n w ≡ true → kindOf w < 2
-unfolding soundWord bankAndKindFit requestOf
-sound-kind n w e =
-    let fit = and-right (isOffer w && classFits n (requestOf w)) (bankAndKindFit (requestOf w)) e in
-    omega (arith, leb-true (kindOf w) 1 (and-right (leb (bankOf w) 7) (leb (kindOf w) 1) fit))
+pub fit-back : (ranks : ℕ) (r : Request) → r .bank ≤ 7 → r .kind ≤ 1 → r .rank < ranks → bankKindRankFit ranks r ≡ true
+unfolding bankKindRankFit
+fit-back ranks r bank kind rank = and-both (and-both (le-leb (r .bank) 7 bank) (le-leb (r .kind) 1 kind)) (lt-ltb (r .rank) ranks rank)
+
+sound-fits : (n ranks w : ℕ) → soundWord n ranks w ≡ true → (bankOf w ≤ 7) × (kindOf w ≤ 1) × (rankOf w < ranks)
+unfolding soundWord requestOf
+sound-fits n ranks w e = fit-bounds ranks (requestOf w) (and-right (isOffer w && classFits n (requestOf w)) (bankKindRankFit ranks (requestOf w)) e)
+
+pub sound-bank : (n ranks w : ℕ) → soundWord n ranks w ≡ true → bankOf w < 8
+sound-bank n ranks w e = let fits = sound-fits n ranks w e in omega (arith, fits .0)
+
+pub sound-kind : (n ranks w : ℕ) → soundWord n ranks w ≡ true → kindOf w < 2
+sound-kind n ranks w e = let fits = sound-fits n ranks w e in omega (arith, fits .1)
+
+pub sound-rank : (n ranks w : ℕ) → soundWord n ranks w ≡ true → rankOf w < ranks
+sound-rank n ranks w e = sound-fits n ranks w e .2
 
 -- a word that is right for a class's queue is sound, and of that class
-pub right-sound : (n c w : ℕ) → rightWord n c w ≡ true → soundWord n w ≡ true
+pub right-sound : (n ranks c w : ℕ) → rightWord n ranks c w ≡ true → soundWord n ranks w ≡ true
 unfolding rightWord
-right-sound n c w e = and-left (soundWord n w) (eqb (classOf w) c) e
+right-sound n ranks c w e = and-left (soundWord n ranks w) (eqb (classOf w) c) e
 
-pub right-class : (n c w : ℕ) → rightWord n c w ≡ true → classOf w ≡ c
+pub right-class : (n ranks c w : ℕ) → rightWord n ranks c w ≡ true → classOf w ≡ c
 unfolding rightWord
-right-class n c w e = eqb-true (classOf w) c (and-right (soundWord n w) (eqb (classOf w) c) e)
+right-class n ranks c w e = eqb-true (classOf w) c (and-right (soundWord n ranks w) (eqb (classOf w) c) e)
 
 -- ---- the parts
 
 -- a class's queue
-pub record QueueRange (n : ℕ) (q : Queues) (c : ℕ) : Type 0 where
+pub record QueueRange (n ranks : ℕ) (q : Queues) (c : ℕ) : Type 0 where
   pub short : lengthOf q c ≤ 8
   pub in-ring : headOf q c < 8
-  pub right : (k : ℕ) → k < lengthOf q c → rightWord n c (waitingAt q c k) ≡ true
+  pub right : (k : ℕ) → k < lengthOf q c → rightWord n ranks c (waitingAt q c k) ≡ true
   pub few-passed : passedOf q c ≤ 15
 
-pub record QueuesRange (n : ℕ) (q : Queues) : Type 0 where
+pub record QueuesRange (n ranks : ℕ) (q : Queues) : Type 0 where
   pub slots-long : length (q .slots) ≡ 128
   pub heads-long : length (q .heads) ≡ 16
   pub lengths-long : length (q .lengths) ≡ 16
   pub passed-long : length (q .passed) ≡ 16
-  pub queue : (c : ℕ) → c < 16 → QueueRange n q c
+  pub queue : (c : ℕ) → c < 16 → QueueRange n ranks q c
 
 -- sixteen numbers, each within its bound
 pub record Within (bound : ℕ → ℕ) (l : List ℕ) : Type 0 where
@@ -96,32 +109,32 @@ pub record TurnsRange (p : Policy) (turns : Turns) : Type 0 where
   pub pointers-fit : Within (coverCount p) (turns .pointers)
 
 -- a pending word: it is sound, and due fewer than so many cycles on
-abbrev pub Fits : ℕ → ℕ → ℕ → ℕ → Type 0
-Fits n bound d w = (d < bound) × (soundWord n w ≡ true)
+abbrev pub Fits : ℕ → ℕ → ℕ → ℕ → ℕ → Type 0
+Fits n ranks bound d w = (d < bound) × (soundWord n ranks w ≡ true)
 
 pub record FlightRange (n : ℕ) (timing : Timing) (t : ℕ) (f : Flight) : Type 0 where
   pub columns-long : length (f .columns) ≡ 32
   pub responses-long : length (f .responses) ≡ 32
-  pub banks-long : length (f .banks) ≡ 8
+  pub banks-long : length (f .banks) ≡ 32
   pub activates-before : Activates (Before t) f
-  pub columns-due : Each (Fits n (timing .column)) t (f .columns)
-  pub responses-due : Each (Fits n (timing .response)) t (f .responses)
+  pub columns-due : Each (Fits n (timing .ranks) (timing .column)) t (f .columns)
+  pub responses-due : Each (Fits n (timing .ranks) (timing .response)) t (f .responses)
 
 pub record Ranged (p : Policy) (s : State) : Type 0 where
   pub fit : policyInRange p ≡ true
   pub same-count : s .classes ≡ p .classes
   pub cycle-bound : s .cycle ≤ lastCycle
-  pub queues : QueuesRange (p .classes) (s .queues)
+  pub queues : QueuesRange (p .classes) (p .timing .ranks) (s .queues)
   pub turns : TurnsRange p (s .turns)
   pub flight : FlightRange (p .classes) (p .timing) (s .cycle) (s .flight)
 
 -- ---- a class's queue, both ways
 
-module _ (n : ℕ) (q : Queues) (c : ℕ) where
+module _ (n ranks : ℕ) (q : Queues) (c : ℕ) where
   abbrev right-or-past : ℕ → Bool
-  right-or-past k = leb (lengthOf q c) k || rightWord n c (getD (q .slots) (place c (headOf q c) k) 0)
+  right-or-past k = leb (lengthOf q c) k || rightWord n ranks c (getD (q .slots) (place c (headOf q c) k) 0)
 
-  queue-range : queueInRange n q c ≡ true → QueueRange n q c
+  queue-range : queueInRange n ranks q c ≡ true → QueueRange n ranks q c
   unfolding queueInRange ringInRange waitingAt
   queue-range e =
       let counted = both e in
@@ -134,11 +147,11 @@ module _ (n : ℕ) (q : Queues) (c : ℕ) where
         right =
             λ k l.
             ⊎-elim (λ t. absurd (not-both t (lt-leb (lengthOf q c) k l))) (λ t. t)
-            (or-cases (leb (lengthOf q c) k) (rightWord n c (getD (q .slots) (place c (headOf q c) k) 0)) (every-at right-or-past 8 (words .1) k (lt-of-lt-of-le l short)));
+            (or-cases (leb (lengthOf q c) k) (rightWord n ranks c (getD (q .slots) (place c (headOf q c) k) 0)) (every-at right-or-past 8 (words .1) k (lt-of-lt-of-le l short)));
         few-passed = leb-true (passedOf q c) 15 (counted .1);
       }
 
-  queue-back : QueueRange n q c → queueInRange n q c ≡ true
+  queue-back : QueueRange n ranks q c → queueInRange n ranks q c ≡ true
   unfolding queueInRange ringInRange waitingAt
   queue-back r =
       and-both
@@ -146,8 +159,8 @@ module _ (n : ℕ) (q : Queues) (c : ℕ) where
       (every-all right-or-past 8
       (λ k l.
       ⊎-elim
-      (λ h. or-right (leb (lengthOf q c) k) (rightWord n c (getD (q .slots) (place c (headOf q c) k) 0)) (r .right k h))
-      (λ h. or-left (leb (lengthOf q c) k) (rightWord n c (getD (q .slots) (place c (headOf q c) k) 0)) (le-leb (lengthOf q c) k h))
+      (λ h. or-right (leb (lengthOf q c) k) (rightWord n ranks c (getD (q .slots) (place c (headOf q c) k) 0)) (r .right k h))
+      (λ h. or-left (leb (lengthOf q c) k) (rightWord n ranks c (getD (q .slots) (place c (headOf q c) k) 0)) (le-leb (lengthOf q c) k h))
       (lt-or-ge k (lengthOf q c)))))
       (le-leb (passedOf q c) 15 (r .few-passed))
 
@@ -167,26 +180,26 @@ module _ (p : Policy) (turns : Turns) (c : ℕ) where
 
 -- ---- what is pending, both ways
 
-module _ (n t bound : ℕ) (pending : List ℕ) where
+module _ (n ranks t bound : ℕ) (pending : List ℕ) where
   abbrev fits : ℕ → Bool
-  fits d = eqb (dueAt pending (t + d)) 0 || ltb d bound && soundWord n (dueAt pending (t + d))
+  fits d = eqb (dueAt pending (t + d)) 0 || ltb d bound && soundWord n ranks (dueAt pending (t + d))
 
-  pends : pendingInRange n t bound pending ≡ true → Each (Fits n bound) t pending
+  pends : pendingInRange n ranks t bound pending ≡ true → Each (Fits n ranks bound) t pending
   unfolding pendingInRange
   pends e d l =
       ⊎-elim
       (λ z. inl (eqb-true (dueAt pending (t + d)) 0 z))
       (λ s. let h = both s in inr (ltb-true d bound (h .0), h .1))
-      (or-cases (eqb (dueAt pending (t + d)) 0) (ltb d bound && soundWord n (dueAt pending (t + d))) (every-at fits 32 e d l))
+      (or-cases (eqb (dueAt pending (t + d)) 0) (ltb d bound && soundWord n ranks (dueAt pending (t + d))) (every-at fits 32 e d l))
 
-  pends-back : Each (Fits n bound) t pending → pendingInRange n t bound pending ≡ true
+  pends-back : Each (Fits n ranks bound) t pending → pendingInRange n ranks t bound pending ≡ true
   unfolding pendingInRange
   pends-back h =
       every-all fits 32
       (λ d l.
       ⊎-elim
-      (λ z. or-left (eqb (dueAt pending (t + d)) 0) (ltb d bound && soundWord n (dueAt pending (t + d))) (eq-eqb (dueAt pending (t + d)) 0 z))
-      (λ s. or-right (eqb (dueAt pending (t + d)) 0) (ltb d bound && soundWord n (dueAt pending (t + d))) (and-both (lt-ltb d bound (s .0)) (s .1)))
+      (λ z. or-left (eqb (dueAt pending (t + d)) 0) (ltb d bound && soundWord n ranks (dueAt pending (t + d))) (eq-eqb (dueAt pending (t + d)) 0 z))
+      (λ s. or-right (eqb (dueAt pending (t + d)) 0) (ltb d bound && soundWord n ranks (dueAt pending (t + d))) (and-both (lt-ltb d bound (s .0)) (s .1)))
       (h d l))
 
 -- ---- the state, both ways: each clause of a test is one line here and one there
@@ -228,7 +241,7 @@ module _ (p : Policy) (s : State) where
               heads-long = eqb-true (length (s .queues .heads)) 16 (slots-heads .1);
               lengths-long = eqb-true (length (s .queues .lengths)) 16 (lengths .1);
               passed-long = eqb-true (length (s .queues .passed)) 16 (passed .1);
-              queue = λ c l. queue-range (p .classes) (s .queues) c (every-at (queueInRange (p .classes) (s .queues)) 16 (queues .1) c l);
+              queue = λ c l. queue-range (p .classes) (p .timing .ranks) (s .queues) c (every-at (queueInRange (p .classes) (p .timing .ranks) (s .queues)) 16 (queues .1) c l);
             };
         turns =
             record {
@@ -248,11 +261,11 @@ module _ (p : Policy) (s : State) where
             record {
               columns-long = eqb-true (length (s .flight .columns)) 32 (columns .1);
               responses-long = eqb-true (length (s .flight .responses)) 32 (responses .1);
-              banks-long = eqb-true (length (s .flight .banks)) 8 (banks .1);
+              banks-long = eqb-true (length (s .flight .banks)) 32 (banks .1);
               activates-before =
-                  record { of-all = before (s .cycle) (s .flight .last) (activates .0); of-bank = λ b l. before (s .cycle) (getD (s .flight .banks) b 0) (every-at bank-before 8 (activates .1) b l) };
-              columns-due = pends (p .classes) (s .cycle) (p .timing .column) (s .flight .columns) (commanding .1);
-              responses-due = pends (p .classes) (s .cycle) (p .timing .response) (s .flight .responses) (responding .1);
+                  record { of-all = before (s .cycle) (s .flight .last) (activates .0); of-bank = λ b l. before (s .cycle) (getD (s .flight .banks) b 0) (every-at bank-before 32 (activates .1) b l) };
+              columns-due = pends (p .classes) (p .timing .ranks) (s .cycle) (p .timing .column) (s .flight .columns) (commanding .1);
+              responses-due = pends (p .classes) (p .timing .ranks) (s .cycle) (p .timing .response) (s .flight .responses) (responding .1);
             };
       }
 
@@ -269,18 +282,22 @@ module _ (p : Policy) (s : State) where
       let pointers = and-both left (eq-eqb (length (s .turns .pointers)) 16 (t .pointers-fit .sixteen)) in
       let columns = and-both pointers (eq-eqb (length (s .flight .columns)) 32 (f .columns-long)) in
       let responses = and-both columns (eq-eqb (length (s .flight .responses)) 32 (f .responses-long)) in
-      let shape = and-both responses (eq-eqb (length (s .flight .banks)) 8 (f .banks-long)) in
+      let shape = and-both responses (eq-eqb (length (s .flight .banks)) 32 (f .banks-long)) in
       let count-owner = and-both (eq-eqb (s .classes) (p .classes) (r .same-count)) (t .owner-class) in
       let counts = and-both count-owner (le-leb (s .cycle) lastCycle (r .cycle-bound)) in
-      let queues = every-all (queueInRange (p .classes) (s .queues)) 16 (λ c l. queue-back (p .classes) (s .queues) c (q .queue c l)) in
+      let queues = every-all (queueInRange (p .classes) (p .timing .ranks) (s .queues)) 16 (λ c l. queue-back (p .classes) (p .timing .ranks) (s .queues) c (q .queue c l)) in
       let turns = every-all (turnsInRange p (s .turns)) 16 (λ c l. turn-back p (s .turns) c (t .pointers-fit .within c l, t .left-within .within c l)) in
-      let banks = every-all bank-before 8 (λ b l. before-back (s .cycle) (getD (s .flight .banks) b 0) (f .activates-before .of-bank b l)) in
+      let banks = every-all bank-before 32 (λ b l. before-back (s .cycle) (getD (s .flight .banks) b 0) (f .activates-before .of-bank b l)) in
       let activates = and-both (before-back (s .cycle) (s .flight .last) (f .activates-before .of-all)) banks in
-      let commanding = and-both activates (pends-back (p .classes) (s .cycle) (p .timing .column) (s .flight .columns) (f .columns-due)) in
-      let flight = and-both commanding (pends-back (p .classes) (s .cycle) (p .timing .response) (s .flight .responses) (f .responses-due)) in
+      let commanding = and-both activates (pends-back (p .classes) (p .timing .ranks) (s .cycle) (p .timing .column) (s .flight .columns) (f .columns-due)) in
+      let flight = and-both commanding (pends-back (p .classes) (p .timing .ranks) (s .cycle) (p .timing .response) (s .flight .responses) (f .responses-due)) in
       and-both (r .fit) (and-both (and-both (and-both (and-both shape counts) queues) turns) flight)
 
 -- ---- what a tick rests on
+
+-- there are four ranks at most
+pub ranks-few : (t : Timing) → TimingLaws t → t .ranks ≤ 4
+ranks-few t laws = ⊎-elim (λ one. omega (arith, one .0)) (λ four. omega (arith, four .0)) (laws .ranks-are)
 
 -- the classes by the state's own count are among the sixteen numbers
 pub small-classes : (p : Policy) (s : State) → Ranged p s → SmallClasses (s .classes)
@@ -291,7 +308,7 @@ small-classes p s r = subst SmallClasses (sym (r .same-count)) (policy-laws p (r
 pub record BusRange (n : ℕ) (b : Bus) : Type 0 where
   pub timed : TimingLaws (b .timing)
   pub owner-small : b .owner < 16
-  pub queues : QueuesRange n (b .queues)
+  pub queues : QueuesRange n (b .timing .ranks) (b .queues)
   pub flight : FlightRange n (b .timing) (b .cycle) (b .flight)
 
 pub bus-range : (p : Policy) (s : State) → Ranged p s → (turns : Turns) → turns .owner < 16 → BusRange (p .classes) (busAt p s turns)
@@ -299,6 +316,9 @@ bus-range p s r turns small =
     record { timed = policy-laws p (r .fit) .timed; owner-small = small; queues = r .queues; flight = r .flight }
 
 module _ (n : ℕ) (b : Bus) (r : BusRange n b) where
+  abbrev ranks : ℕ
+  ranks = b .timing .ranks
+
   -- only a request that waits goes
   pub goes-waits : canActivate b ≡ true → goesAt b < lengthOf (b .queues) (b .owner)
   unfolding canActivate
@@ -322,15 +342,15 @@ module _ (n : ℕ) (b : Bus) (r : BusRange n b) where
       (⊎-elim (λ none. absurd (other (eqb-true k 0 none))) (λ t. t) (or-cases (eqb k 0) few (and-left (eqb k 0 || few) _ (goes-first e .passes))))
 
   -- each waiting request of the owner's is sound
-  pub waiting-sound : (k : ℕ) → k < lengthOf (b .queues) (b .owner) → soundWord n (waitingAt (b .queues) (b .owner) k) ≡ true
-  waiting-sound k some = right-sound n (b .owner) (waitingAt (b .queues) (b .owner) k) (r .queues .queue (b .owner) (r .owner-small) .right k some)
+  pub waiting-sound : (k : ℕ) → k < lengthOf (b .queues) (b .owner) → soundWord n ranks (waitingAt (b .queues) (b .owner) k) ≡ true
+  waiting-sound k some = right-sound n ranks (b .owner) (waitingAt (b .queues) (b .owner) k) (r .queues .queue (b .owner) (r .owner-small) .right k some)
 
   -- so is the one that goes, and it is one of the owner's
-  pub going-right : goesAt b < lengthOf (b .queues) (b .owner) → rightWord n (b .owner) (going b) ≡ true
+  pub going-right : goesAt b < lengthOf (b .queues) (b .owner) → rightWord n ranks (b .owner) (going b) ≡ true
   unfolding going
   going-right some = r .queues .queue (b .owner) (r .owner-small) .right (goesAt b) some
 
-  pub going-sound : goesAt b < lengthOf (b .queues) (b .owner) → soundWord n (going b) ≡ true
+  pub going-sound : goesAt b < lengthOf (b .queues) (b .owner) → soundWord n ranks (going b) ≡ true
   unfolding going
   going-sound some = waiting-sound (goesAt b) some
 
@@ -340,7 +360,7 @@ module _ (n : ℕ) (b : Bus) (r : BusRange n b) where
       let columns = b .flight .columns in
       let now : b .cycle + 0 ≡ b .cycle = omega arith in
       subst (λ (k : ℕ). isOffer (dueAt columns k) ≡ true) now
-      (⊎-elim (λ none. absurd (some (ap (dueAt columns) (sym now) ∙ none))) (λ fits. sound-offer n (dueAt columns (b .cycle + 0)) (fits .1)) (r .flight .columns-due 0 (lit< tt)))
+      (⊎-elim (λ none. absurd (some (ap (dueAt columns) (sym now) ∙ none))) (λ fits. sound-offer n ranks (dueAt columns (b .cycle + 0)) (fits .1)) (r .flight .columns-due 0 (lit< tt)))
 
   -- so the second step has what it rests on
   pub ready : b .cycle < lastCycle → Ready b
@@ -354,6 +374,6 @@ module _ (n : ℕ) (b : Bus) (r : BusRange n b) where
             λ k some.
             let w = waitingAt (b .queues) (b .owner) k in
             let sound = waiting-sound k some in
-            record { offer = sound-offer n w sound; bank = sound-bank n w sound; kind = sound-kind n w sound };
+            record { offer = sound-offer n ranks w sound; bank = sound-bank n ranks w sound; kind = sound-kind n ranks w sound };
         due-offer = due-offer;
       }

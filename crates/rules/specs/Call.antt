@@ -1,6 +1,6 @@
 -- The answers of the public calls: "0 or the number below", and the state.
 use mathlib.Core.Bool.{true, false}
-use Prim.Native.Nat.{_+_}
+use Prim.Native.Nat.{ℕ, _+_}
 use lib.Dec.{ltb}
 use Rattle.policy.specs.declared.Policy.{Policy}
 use Rattle.requests.specs.Sizes.{lastCycle}
@@ -19,16 +19,16 @@ use Rattle.state.specs.declared.Ticked.{Ticked}
 -- ---- offers: "Order: .. offers 13, 9, 10, 11"
 
 -- an offer on a state in range: it changes the queues at most, "and changes nothing else in the state"; "A refused call hands back the state it was given"
-unfoldable pub offerOn : State → Request → Offered
-offerOn s r =
+unfoldable pub offerOn : ℕ → State → Request → Offered
+offerOn ranks s r =
     record {
-      status = offerStatus (s .classes) (s .queues .lengths) r;
+      status = offerStatus (s .classes) ranks (s .queues .lengths) r;
       state =
-          record { cycle = s .cycle; classes = s .classes; queues = queuesAfter (s .classes) (s .queues) r; turns = s .turns; flight = s .flight };
+          record { cycle = s .cycle; classes = s .classes; queues = queuesAfter (s .classes) ranks (s .queues) r; turns = s .turns; flight = s .flight };
     }
 
 unfoldable pub offer : Policy → State → Request → Offered
-offer p s r = elim (inRange p s) [ true ↦ offerOn s r | false ↦ record { status = 13; state = s } ]
+offer p s r = elim (inRange p s) [ true ↦ offerOn (p .timing .ranks) s r | false ↦ record { status = 13; state = s } ]
 
 -- ---- ticks: "ticks 13, 12"
 

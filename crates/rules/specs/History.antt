@@ -7,7 +7,7 @@ use Prim.Native.Nat.{ℕ, _+_, _-_, _%_, _≤_, _<_}
 use lib.ListN.{getD}
 use Rattle.policy.specs.Policy.{flows}
 use Rattle.policy.specs.declared.Policy.{Policy}
-use Rattle.requests.specs.Sizes.{bankCount, pendingPlaces}
+use Rattle.requests.specs.Sizes.{bankPlaces, pendingPlaces}
 use Rattle.requests.specs.Word.{classOf}
 use Rattle.rules.specs.Lookahead.{elides}
 use Rattle.flight.specs.Flight.{dueAt}
@@ -50,7 +50,7 @@ pub record InFlight (P : ℕ → ℕ → Type 0) (t : ℕ) (f : Flight) : Type 0
 -- and so it is with the last activate of all, and with that of each bank
 pub record Activates (P : ℕ → Type 0) (f : Flight) : Type 0 where
   pub of-all : P (f .last)
-  pub of-bank : (b : ℕ) → b < bankCount → P (getD (f .banks) b 0)
+  pub of-bank : (b : ℕ) → b < bankPlaces → P (getD (f .banks) b 0)
 
 -- ---- what holds of every state reached from fresh
 

@@ -34,3 +34,5 @@ pub mod RoundRobin
 pub mod Guarantees
 -- W-203: what it comes to that a request may pass older ones of its class
 pub mod Overtaking
+-- W-206: the rank gap in a log, and the logs of files without one
+pub mod Ranks

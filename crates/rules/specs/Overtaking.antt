@@ -9,7 +9,7 @@ use lib.ListN.{length, getD, drop}
 use Rattle.policy.specs.Policy.{isClass}
 use Rattle.policy.specs.declared.Policy.{Policy}
 use Rattle.requests.specs.Sizes.{mostPassed}
-use Rattle.requests.specs.Word.{classOf, kindOf, bankOf, isOffer}
+use Rattle.requests.specs.Word.{classOf, rankOf, kindOf, bankOf, isOffer}
 use Rattle.queues.specs.Waiting.{waiting}
 use Rattle.state.specs.Fresh.{freshState}
 use Rattle.rules.specs.Calls.{stateAfter, logOf}
@@ -25,12 +25,12 @@ unfoldable pub those : (ℕ → Bool) → List ℕ → List ℕ
 those f [] = []
 those f (w ∷ ws) = onlyIf (f w) w ++ those f ws
 
--- a word is that of a request of the class; and of its bank and kind too
+-- a word is that of a request of the class; and of the rank, bank and kind too
 unfoldable pub ofClass : ℕ → ℕ → Bool
 ofClass c w = eqb (classOf w) c
 
-unfoldable pub ofStream : ℕ → ℕ → ℕ → ℕ → Bool
-ofStream c bank kind w = ofClass c w && eqb (bankOf w) bank && eqb (kindOf w) kind
+unfoldable pub ofStream : ℕ → ℕ → ℕ → ℕ → ℕ → Bool
+ofStream c rank bank kind w = ofClass c w && eqb (rankOf w) rank && eqb (bankOf w) bank && eqb (kindOf w) kind
 
 -- ---- what a trace and its log show, which has four numbers for each of the trace's
 
@@ -52,13 +52,13 @@ activations ws log = those isOffer (commandsIn (length ws) log)
 
 -- of every policy in range, every list of calls from fresh and every class
 pub record Overtaking (p : Policy) : Type 0 where
-  -- Of one class, bank and kind the requests are activated in the order in which they were offered, and those that are not activated yet wait in that order. So of two waiting ones the older is activated first: their
+  -- Of one class, rank, bank and kind the requests are activated in the order in which they were offered, and those that are not activated yet wait in that order. So of two waiting ones the older is activated first: their
   -- gaps are met together.
-  pub in-order : (ws : List ℕ) (c bank kind : ℕ) → isClass p c ≡ true
-      → those (ofStream c bank kind) (takenOffers ws (logOf p (freshState p) ws))
-      ≡ those (ofStream c bank kind) (activations ws (logOf p (freshState p) ws)) ++ those (ofStream c bank kind) (waiting (stateAfter p (freshState p) ws .queues) c)
+  pub in-order : (ws : List ℕ) (c rank bank kind : ℕ) → isClass p c ≡ true
+      → those (ofStream c rank bank kind) (takenOffers ws (logOf p (freshState p) ws))
+      ≡ those (ofStream c rank bank kind) (activations ws (logOf p (freshState p) ws)) ++ those (ofStream c rank bank kind) (waiting (stateAfter p (freshState p) ws .queues) c)
   -- "A request that has been the oldest while 15 others passed it goes next": once a request is its class's oldest, at most 15 others of the class are activated before it. That is, in whatever calls follow, as long as
-  -- its word is not among the activates. (The first activate of its word is its own, by the order within a bank and kind.)
+  -- its word is not among the activates. (The first activate of its word is its own, by the order within a rank, bank and kind.)
   pub at-most-15-pass : (ws more : List ℕ) (c oldest : ℕ) (rest : List ℕ) → isClass p c ≡ true
       → waiting (stateAfter p (freshState p) ws .queues) c ≡ oldest ∷ rest
       → those (eqb oldest) (activations more (logOf p (stateAfter p (freshState p) ws) more)) ≡ []

@@ -6,7 +6,7 @@ use lib.Dec.{ltb, eqb}
 use lib.ListN.{getD, set}
 use Rattle.queues.specs.Waiting.{headOf, lengthOf, passedOf, place}
 use Rattle.requests.specs.Sizes.{ringPlaces}
-use Rattle.requests.specs.Word.{classFits, bankAndKindFit, wordOf}
+use Rattle.requests.specs.Word.{classFits, bankKindRankFit, wordOf}
 use Rattle.requests.specs.declared.Request.{Request}
 use Rattle.queues.specs.declared.Queues.{Queues}
 
@@ -41,10 +41,10 @@ dequeue q c k =
 
 -- ---- offers: "offers 13, 9, 10, 11"
 
--- 9, 10 and 11, in that order, of an offer on queues in range; 0 where none refuses it
-unfoldable pub offerStatus : ℕ → List ℕ → Request → ℕ
-offerStatus n lengths r = cond (classFits n r) (cond (bankAndKindFit r) (cond (ltb (getD lengths (r .class) 0) ringPlaces) 0 11) 10) 9
+-- 9, 10 and 11, in that order, of an offer on queues in range, where there are n classes and so many ranks; 0 where none refuses it
+unfoldable pub offerStatus : ℕ → ℕ → List ℕ → Request → ℕ
+offerStatus n ranks lengths r = cond (classFits n r) (cond (bankKindRankFit ranks r) (cond (ltb (getD lengths (r .class) 0) ringPlaces) 0 11) 10) 9
 
 -- "An offer that is not turned down goes to the end of its class's queue as it is"; one that is refused changes nothing
-unfoldable pub queuesAfter : ℕ → Queues → Request → Queues
-queuesAfter n q r = elim (eqb (offerStatus n (q .lengths) r) 0) [ true ↦ enqueue q (r .class) (wordOf r) | false ↦ q ]
+unfoldable pub queuesAfter : ℕ → ℕ → Queues → Request → Queues
+queuesAfter n ranks q r = elim (eqb (offerStatus n ranks (q .lengths) r) 0) [ true ↦ enqueue q (r .class) (wordOf r) | false ↦ q ]

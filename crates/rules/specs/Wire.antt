@@ -6,8 +6,8 @@ use lib.Dec.{leb, ltb, eqb}
 use lib.ListN.{getD, set}
 use Rattle.timing.specs.declared.Timing.{Timing}
 use Rattle.requests.specs.Sizes.{pendingPlaces}
-use Rattle.flight.specs.Flight.{activateAt, activateNext, activateKind}
-use Rattle.requests.specs.Word.{kindOf, bankOf}
+use Rattle.flight.specs.Flight.{activateAt, activateNext, activateRank, activateKind}
+use Rattle.requests.specs.Word.{rankOf, kindOf, bankPlace}
 use Rattle.flight.specs.declared.Flight.{Flight}
 
 -- ---- gaps
@@ -26,11 +26,20 @@ kindGap timing last kind = getD (timing .gaps) (2 * activateKind last + kind) 0
 abbrev pub bankGap : Timing → ℕ → ℕ
 bankGap timing ofBank = getD (timing .bank) (activateKind ofBank) 0
 
-unfoldable pub gapsMetBy : Timing → ℕ → ℕ → ℕ → ℕ → Bool
-gapsMetBy timing last ofBank kind t = gapMet last (kindGap timing last kind) t && gapMet ofBank (bankGap timing ofBank) t
+-- W-206: "the rank gap .., kept from the last activate of all where that was on another rank": the first tick at which it is met; 0 where that was on the same rank, or there was none
+unfoldable pub rankOpens : Timing → ℕ → ℕ → ℕ
+rankOpens timing last rank = cond (eqb (activateRank last) rank) 0 (opensAt last (timing .rank))
 
+unfoldable pub rankGapMet : Timing → ℕ → ℕ → ℕ → Bool
+rankGapMet timing last rank t = leb (rankOpens timing last rank) (t + 1)
+
+-- ".. besides the other gaps"
+unfoldable pub gapsMetBy : Timing → ℕ → ℕ → ℕ → ℕ → ℕ → Bool
+gapsMetBy timing last ofBank rank kind t = gapMet last (kindGap timing last kind) t && rankGapMet timing last rank t && gapMet ofBank (bankGap timing ofBank) t
+
+-- W-206: "a bank is then known by rank and bank"
 unfoldable pub gapsMet : Timing → Flight → ℕ → ℕ → Bool
-gapsMet timing f w t = gapsMetBy timing (f .last) (getD (f .banks) (bankOf w) 0) (kindOf w) t
+gapsMet timing f w t = gapsMetBy timing (f .last) (getD (f .banks) (bankPlace w) 0) (rankOf w) (kindOf w) t
 
 -- "The owner may activate at offsets below turn length less dead time; if the dead time is dropped, at all offsets."
 unfoldable pub offsetAllows : Timing → Bool → ℕ → Bool
@@ -44,6 +53,6 @@ activated timing columns responses banks w t =
     record {
       columns = set columns ((t + timing .column) % pendingPlaces) w;
       responses = set responses ((t + timing .response) % pendingPlaces) w;
-      banks = set banks (bankOf w) (activateAt t (kindOf w));
-      last = activateAt t (kindOf w);
+      banks = set banks (bankPlace w) (activateAt t (rankOf w) (kindOf w));
+      last = activateAt t (rankOf w) (kindOf w);
     }

@@ -111,7 +111,8 @@ fn call_at(
             )
         }
         Call::Offer(r) => {
-            let status = wires::offer(m.classes, slots, heads, lengths, r, word);
+            let timing = p.timing;
+            let status = wires::offer(m.classes, timing.ranks, slots, heads, lengths, r, word);
             answered(nothing_known(m), status)
         }
         Call::Malformed => answered(m, 14),

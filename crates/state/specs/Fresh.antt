@@ -5,7 +5,7 @@ use Prim.Native.Nat.{ℕ}
 use lib.ListN.{replicate}
 use Rattle.policy.specs.Policy.{inRange}
 use Rattle.policy.specs.declared.Policy.{Policy}
-use Rattle.requests.specs.Sizes.{bankCount, pendingPlaces}
+use Rattle.requests.specs.Sizes.{bankPlaces, pendingPlaces}
 use Rattle.queues.specs.declared.Queues.{Queues}
 use Rattle.flight.specs.declared.Flight.{Flight}
 use Rattle.state.specs.declared.State.{State}
@@ -18,7 +18,7 @@ unfoldable pub emptyQueues : Queues
 emptyQueues = record { slots = zeros 128; heads = zeros 16; lengths = zeros 16; passed = zeros 16 }
 
 unfoldable pub nothingInFlight : Flight
-nothingInFlight = record { columns = zeros pendingPlaces; responses = zeros pendingPlaces; banks = zeros bankCount; last = 0 }
+nothingInFlight = record { columns = zeros pendingPlaces; responses = zeros pendingPlaces; banks = zeros bankPlaces; last = 0 }
 
 -- "A fresh state is at cycle 0, with empty queues, nothing in flight, no activate yet, .. marks 0, owner 0 and its dead time kept."
 unfoldable pub stateAtStart : ℕ → List ℕ → State

@@ -7,7 +7,7 @@ use Rattle.basics.specs.Below.{every}
 use Rattle.policy.specs.Policy.{isClass, coverCount, cap}
 use Rattle.policy.specs.Policy.{inRange as policyInRange}
 use Rattle.policy.specs.declared.Policy.{Policy}
-use Rattle.requests.specs.Sizes.{lastCycle, bankCount, pendingPlaces}
+use Rattle.requests.specs.Sizes.{lastCycle, bankPlaces, pendingPlaces}
 use Rattle.queues.specs.Waiting.{queueInRange}
 use Rattle.flight.specs.Flight.{flightInRange}
 use Rattle.state.specs.declared.Turns.{Turns}
@@ -26,7 +26,7 @@ shaped s =
     && eqb (length (s .turns .pointers)) 16
     && eqb (length (s .flight .columns)) pendingPlaces
     && eqb (length (s .flight .responses)) pendingPlaces
-    && eqb (length (s .flight .banks)) bankCount
+    && eqb (length (s .flight .banks)) bankPlaces
 
 -- "a mark above the number of children"; "turns left above the cap"
 unfoldable pub turnsInRange : Policy → Turns → ℕ → Bool
@@ -40,7 +40,7 @@ unfoldable pub stateInRange : Policy → State → Bool
 stateInRange p s =
     shaped s
     && countsInRange p s
-    && every 16 (queueInRange (p .classes) (s .queues))
+    && every 16 (queueInRange (p .classes) (p .timing .ranks) (s .queues))
     && every 16 (turnsInRange p (s .turns))
     && flightInRange (p .classes) (p .timing) (s .cycle) (s .flight)
 

@@ -110,7 +110,7 @@ fn state_in_range(s: State, p: Policy) -> bool
     let covers = p.covers;
     let caps = p.caps;
     let timing = p.timing;
-    queues::queues_in_range(p.classes, &slots, &heads, &lengths, &passed)
+    queues::queues_in_range(p.classes, timing.ranks, &slots, &heads, &lengths, &passed)
         & turns_in_range(&covers, &caps, &left, &pointers)
         & flight::flight_in_range(p.classes, timing, s.cycle, flight)
 }
@@ -139,7 +139,7 @@ fn nothing_in_flight() -> Flight
     Flight {
         columns: [0u32; 32],
         responses: [0u32; 32],
-        banks: [0u32; 8],
+        banks: [0u32; 32],
         last: 0,
     }
 }

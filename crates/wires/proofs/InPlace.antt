@@ -11,17 +11,17 @@ use lib.Dec.{leb, eqb}
 use lib.ListN.{getD}
 use Rattle.timing.specs.declared.Timing.{Timing}
 use Rattle.basics.proofs.Truth.{same-truth, and-left, and-right, and-both}
-use Rattle.requests.specs.Word.{kindOf, bankOf, wordOf}
+use Rattle.requests.specs.Word.{rankOf, kindOf, bankPlace, wordOf}
 use Rattle.rules.specs.Queue.{offerStatus, queuesAfter}
-use Rattle.rules.specs.Wire.{opensAt, gapMet, kindGap, bankGap, gapsMetBy}
+use Rattle.rules.specs.Wire.{opensAt, gapMet, kindGap, bankGap, rankOpens, rankGapMet, gapsMetBy}
 use Rattle.requests.specs.declared.Request.{Request}
 use Rattle.queues.specs.declared.Queues.{Queues}
 use Rattle.wires.specs.InPlace.{queuedBy, opensBy}
 
 -- the status and the word of an offer say what it leaves
-pub queued-by : (n : ℕ) (q : Queues) (r : Request) (status word : ℕ) → status ≡ offerStatus n (q .lengths) r → word ≡ wordOf r → queuedBy status q (r .class) word ≡ queuesAfter n q r
+pub queued-by : (n ranks : ℕ) (q : Queues) (r : Request) (status word : ℕ) → status ≡ offerStatus n ranks (q .lengths) r → word ≡ wordOf r → queuedBy status q (r .class) word ≡ queuesAfter n ranks q r
 unfolding queuesAfter
-queued-by n q r status word e f = ap₂ (λ (k w : ℕ). queuedBy k q (r .class) w) e f
+queued-by n ranks q r status word e f = ap₂ (λ (k w : ℕ). queuedBy k q (r .class) w) e f
 
 -- ---- when a request's gaps are met
 
@@ -39,11 +39,13 @@ of-kind f (suc kind) small =
     let one : suc kind ≡ 1 = omega (arith, small) in
     ap f one ∙ sym (ap (λ (b : Bool). cond b (f 0) (f 1)) (ne-eqb (suc kind) 0 (λ e. not-suc-le-zero {n = kind} (omega (arith, e)))))
 
--- they are met from the later of two ticks on: that of its kind, and that of its bank
-pub gaps-open : (timing : Timing) (last : ℕ) (banks : List ℕ) (w t : ℕ) → kindOf w < 2 → gapsMetBy timing last (getD banks (bankOf w) 0) (kindOf w) t ≡ leb (opensBy timing (opensAt last (kindGap timing last 0)) (opensAt last (kindGap timing last 1)) banks w) (t + 1)
-unfolding gapsMetBy gapMet
+-- they are met from the latest of three ticks on: that of its kind, that of its rank and that of its bank
+pub gaps-open : (timing : Timing) (last : ℕ) (banks : List ℕ) (w t : ℕ) → kindOf w < 2 → gapsMetBy timing last (getD banks (bankPlace w) 0) (rankOf w) (kindOf w) t ≡ leb (opensBy timing last (opensAt last (kindGap timing last 0)) (opensAt last (kindGap timing last 1)) banks w) (t + 1)
+unfolding gapsMetBy gapMet rankGapMet
 gaps-open timing last banks w t small =
-    let ofBank = getD banks (bankOf w) 0 in
+    let ofBank = opensAt (getD banks (bankPlace w) 0) (bankGap timing (getD banks (bankPlace w) 0)) in
+    let ofRank = rankOpens timing last (rankOf w) in
     let opens : ℕ → ℕ = λ kind. opensAt last (kindGap timing last kind) in
-    both-come (opens (kindOf w)) (opensAt ofBank (bankGap timing ofBank)) (t + 1)
-    ∙ ap (λ (k : ℕ). leb (max k (opensAt ofBank (bankGap timing ofBank))) (t + 1)) (of-kind opens (kindOf w) small)
+    ap (λ (b : Bool). b && leb ofBank (t + 1)) (both-come (opens (kindOf w)) ofRank (t + 1))
+    ∙ both-come (max (opens (kindOf w)) ofRank) ofBank (t + 1)
+    ∙ ap (λ (k : ℕ). leb (max (max k ofRank) ofBank) (t + 1)) (of-kind opens (kindOf w) small)

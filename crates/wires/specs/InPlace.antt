@@ -7,10 +7,10 @@ use lib.Dec.{eqb}
 use lib.ListN.{getD}
 use Rattle.timing.specs.declared.Timing.{Timing}
 use Rattle.requests.specs.Sizes.{ringPlaces, bankCount}
-use Rattle.requests.specs.Word.{kindOf, bankOf, commandNumber}
+use Rattle.requests.specs.Word.{rankOf, kindOf, bankOf, bankPlace, commandNumber}
 use Rattle.queues.specs.Waiting.{lengthOf, place}
 use Rattle.rules.specs.Queue.{enqueue}
-use Rattle.rules.specs.Wire.{opensAt, bankGap, gapsMetBy}
+use Rattle.rules.specs.Wire.{opensAt, bankGap, rankOpens, gapsMetBy}
 use Rattle.rules.specs.Step.{Driven, Bus, mayPass, mayGo, drive}
 use Rattle.rules.specs.Ready.{Ready}
 use Rattle.queues.specs.declared.Queues.{Queues}
@@ -22,17 +22,17 @@ use Rattle.wires.specs.declared.Drove.{Drove}
 abbrev pub queuedBy : ℕ → Queues → ℕ → ℕ → Queues
 queuedBy status q class word = elim (eqb status 0) [ true ↦ enqueue q class word | false ↦ q ]
 
--- the first tick, counted from 1, at which the gaps of a request are met, where those from the last activate of all are for a read and for a write at these
-abbrev pub opensBy : Timing → ℕ → ℕ → List ℕ → ℕ → ℕ
-opensBy timing read write banks word =
-    let ofBank = getD banks (bankOf word) 0 in
-    max (cond (eqb (kindOf word) 0) read write) (opensAt ofBank (bankGap timing ofBank))
+-- the first tick, counted from 1, at which the gaps of a request are met, where those from the last activate of all, by the kinds, are for a read and for a write at these
+abbrev pub opensBy : Timing → ℕ → ℕ → ℕ → List ℕ → ℕ → ℕ
+opensBy timing last read write banks word =
+    let ofBank = getD banks (bankPlace word) 0 in
+    max (max (cond (eqb (kindOf word) 0) read write) (rankOpens timing last (rankOf word))) (opensAt ofBank (bankGap timing ofBank))
 
 -- what `mayGo` says of a class's k-th request from the oldest, of the numbers and arrays that are worked on
 abbrev pub mayGoBy : Timing → ℕ → ℕ → List ℕ → List ℕ → ℕ → ℕ → ℕ → ℕ → Bool
 mayGoBy timing cycle last slots banks class head passed k =
     let word = getD slots (place class head k) 0 in
-    mayPass k passed && gapsMetBy timing last (getD banks (bankOf word) 0) (kindOf word) cycle
+    mayPass k passed && gapsMetBy timing last (getD banks (bankPlace word) 0) (rankOf word) (kindOf word) cycle
 
 -- a queue is no longer than its ring, and each of its requests has a bank and a kind
 pub record Scannable (slots : List ℕ) (class head length : ℕ) : Type 0 where

@@ -2,7 +2,7 @@
 
 ghost use mathlib.Core.Path.{_≡_};
 ghost use mathlib.Core.Bool.{false, cond};
-ghost use Prim.Native.Nat.{ℕ, _+_, _%_, _<_, min, max};
+ghost use Prim.Native.Nat.{ℕ, _+_, _%_, _≤_, _<_, min, max};
 ghost use lib.Dec.{eqb};
 ghost use lib.ListN.{getD};
 ghost use Rattle.policy.specs.Laws.{TimingLaws};
@@ -19,7 +19,6 @@ use flight::Pending;
 use queues::MOST_PASSED;
 use queues::RING_PLACES;
 use queues::Slots;
-use requests::BANK_COUNT;
 use requests::words;
 use timing::Timing;
 
@@ -48,8 +47,8 @@ pub(crate) fn activate(
 {
     let column = (std::num::wrapping_add_u32(cycle, timing.column) % PENDING_PLACES) as usize;
     let response = (std::num::wrapping_add_u32(cycle, timing.response) % PENDING_PLACES) as usize;
-    let bank = words::bank_of(word) as usize % BANK_COUNT;
-    let last = flight::activate_at(cycle, words::kind_of(word));
+    let bank = words::bank_place(word);
+    let last = flight::activate_at(cycle, words::rank_of(word), words::kind_of(word));
     columns[column] = word;
     responses[response] = word;
     banks[bank] = last;
@@ -92,13 +91,26 @@ fn of_kind(kind: u32, read: u64, write: u64) -> u64
     if kind == 0 { read } else { write }
 }
 
-// The first tick, counted from 1, at which the gaps of a request are met, where those from the last activate of all are for a read and for a write at these.
-fn opens_of(timing: Timing, read: u64, write: u64, banks: &Banks, word: u32) -> u64
-    ensures { λ r. ⌜ (bankOf word < bankCount → r ≡ opensBy timing read write (now (banks .entry)) word) ⌝ }
+// A tick, counted from 1, before which the gaps of a request are not met, where those from the last activate of all, by the kinds, are for a read and for a write at these; and
+// if that tick has come they are. The rank gap is asked of a request whose other gaps are met, so that a look through a queue costs no more for it.
+fn opens_of(
+    timing: Timing,
+    tick: u64,
+    last: u32,
+    read: u64,
+    write: u64,
+    banks: &Banks,
+    word: u32,
+) -> u64
+    ensures early { λ r. ⌜ (bankOf word < bankCount → r ≤ opensBy timing last read write (now (banks .entry)) word) ⌝ }
+    ensures come { λ r. ⌜ (bankOf word < bankCount → r ≤ tick → opensBy timing last read write (now (banks .entry)) word ≤ tick) ⌝ }
 {
-    let bank = words::bank_of(word) as usize % BANK_COUNT;
-    let of_bank = decisions::bank_opens(timing, banks[bank]);
-    later(of_kind(words::kind_of(word), read, write), of_bank)
+    let of_bank = decisions::bank_opens(timing, banks[words::bank_place(word)]);
+    let opens = later(of_kind(words::kind_of(word), read, write), of_bank);
+    if tick < opens {
+        return opens;
+    }
+    decisions::rank_opens(timing, last, words::rank_of(word))
 }
 
 // Looks for the request of a class that goes: the first whose gaps are met, and none but the oldest where so many as may have passed it. The oldest is looked at first, so a
@@ -141,7 +153,7 @@ pub(crate) fn goes_at(
     let mut k = 0;
     while (k < length) & (k < RING_PLACES) {
         let word = waiting_at(slots, class, head, k);
-        let opens = opens_of(timing, read, write, banks, word);
+        let opens = opens_of(timing, now, last, read, write, banks, word);
         if opens <= now {
             return Found { place: k, until: 0 };
         }

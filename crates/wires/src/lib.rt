@@ -44,13 +44,14 @@ pub struct Drove {
 // has and of which document 01 says nothing, gets 9 even where the class count lets it through.
 pub fn offer(
     classes: usize,
+    ranks: u32,
     slots: &mut Slots,
     heads: &[usize; 16],
     lengths: &mut [usize; 16],
     r: Request,
     word: u32,
 ) -> u32
-    ensures status { λ status. ⌜ (SmallClasses classes → status ≡ offerStatus classes (now (lengths .entry)) r) ⌝ }
+    ensures status { λ status. ⌜ (SmallClasses classes → status ≡ offerStatus classes ranks (now (lengths .entry)) r) ⌝ }
     ensures queues { λ status. ⌜ ((passed : List ℕ) → queuesOf (now (slots .exit)) (now (heads .entry)) (now (lengths .exit)) passed
         ≡ queuedBy status (queuesOf (now (slots .entry)) (now (heads .entry)) (now (lengths .entry)) passed) (r .class) word) ⌝ }
 {
@@ -61,7 +62,7 @@ pub fn offer(
     if 16 <= class {
         return 9;
     }
-    if !words::bank_and_kind_fit(r) {
+    if !words::bank_kind_rank_fit(ranks, r) {
         return 10;
     }
     if RING_PLACES <= lengths[class] {

@@ -15,22 +15,22 @@ use Rattle.basics.specs.Below.{every, some, first, count, sum, setOf, listOf}
 use Rattle.masks.specs.Mask.{member, includes, size, nth, belowMask}
 use Rattle.order.specs.Order.{isClassIn, flowsIn, strictlyIn, rowFits, rowsFit, antisymmetricAt, antisymmetric, transitiveAt, transitive, hasLeast, leastAt, leastIn, betweenIn, coversIn, coverSet}
 use Rattle.turns.specs.Turns.{minimumsSum, turnsSound, minimumsAbove, capIn, freeTurns, homeTurnIn, homePlace, minimumsBelow, homeAt}
-use Rattle.timing.specs.Timing.{within, gapsWithin, bankWithin, timingSound}
+use Rattle.timing.specs.Timing.{within, gapsWithin, bankWithin, rankWithin, timingSound}
 use Rattle.policy.specs.Policy.{isClass, flows, least, above, coversOf, cap, homeTurn, homeClass, firstFailing, policyTests, refusal, storedFits, allStoredFits, shaped, inRange, minimum}
-use Rattle.file.specs.File.{byte, word, kind, start, bodySize, kindsFit, bodiesAbut, contentsFit, classCount, lengthsFit, rowAt, epochOf, minimumAt, timingOf, held, noPolicy, fileTests, status, refusedWith, readFile}
+use Rattle.file.specs.File.{byte, word, kind, start, bodySize, kindsFit, bodiesAbut, contentsFit, classCount, lengthsFit, rowAt, epochOf, minimumAt, ranksOf, rankGapOf, timingOf, held, noPolicy, fileTests, status, refusedWith, readFile}
 use Rattle.file.specs.Taken.{policyOf}
 use Rattle.policy.specs.declared.Policy.{Policy}
 use Rattle.file.specs.declared.Reading.{Reading}
 use Rattle.basics.proofs.Truth.{either, not-both, not-true, not-false, and-left, and-right, and-both, and-fails-left, or-cases, on-true, on-false}
 use Rattle.basics.proofs.Below.{count-same}
 use Rattle.policy.proofs.Laws.{policy-laws}
-use Rattle.requests.specs.Word.{classOf, kindOf, bankOf, tagOf, isOffer, requestOf, wordOf, classFits, bankAndKindFit, columnNumber, commandNumber}
+use Rattle.requests.specs.Word.{classOf, rankOf, kindOf, bankOf, tagOf, bankPlace, isOffer, requestOf, bankInWord, wordOf, classFits, bankKindRankFit, columnNumber, commandNumber}
 use Rattle.queues.specs.Waiting.{headOf, lengthOf, passedOf, place, waitingAt}
-use Rattle.flight.specs.Flight.{dueAt, activateAt, activateNext, activateKind, sentAt}
+use Rattle.flight.specs.Flight.{dueAt, activateAt, activateNext, activateRank, activateKind, sentAt}
 use Rattle.rules.specs.Queue.{enqueue, closedUp, passedAfter, dequeue, offerStatus, queuesAfter}
 use Rattle.rules.specs.Traversal.{firstClass, candidates, moved, movedPointer, passedAt, named, takesBy, takes, endsAt, tryClass, charge, takesHome, leftTried, charged}
 use Rattle.rules.specs.Lookahead.{goesOn, reaches, aheadOf, nextLeft, elides}
-use Rattle.rules.specs.Wire.{opensAt, gapMet, gapsMetBy, gapsMet, offsetAllows, activated}
+use Rattle.rules.specs.Wire.{opensAt, gapMet, rankOpens, rankGapMet, gapsMetBy, gapsMet, offsetAllows, activated}
 use Rattle.rules.specs.Step.{turnStarts, turnNumber, leftAtStart, ownedBy, startTurn, turnsAt, turnWord, mayGo, goesAt, going, canActivate, drive, answered}
 use Rattle.state.specs.Fresh.{zeros, emptyQueues, nothingInFlight, stateAtStart, freshState}
 use Rattle.state.specs.Range.{inRange as stateRange}
@@ -39,7 +39,7 @@ use Rattle.requests.specs.Trace.{callOf}
 use Rattle.rules.specs.Calls.{Answer, ticked, offered, answer, answerTo, stateAfter, logOf}
 use Rattle.rules.specs.Overtaking.{commandsIn}
 use Rattle.rules.specs.Guarantees.{ticksIn, stateAtTick, atTick, firstTick, Started, Waits, owns, ownedIn}
-use Rattle.worked.specs.Worked.{timed, example, alone, pair, fork, spare, chain, full, aloneAtHome, chainAtHome, forkFilled, filledAbove, leastIsOne, busyBank, slowWrites, ticks, reads, everySecond, eachTurn, refilled, behindReads, logFrom, turnsIn, turnsFrom, commandsFrom, passedFrom, waitsAt, epochOfLeast, twoEpochs, startOf, printed, Case, table, WorkedTurns}
+use Rattle.worked.specs.Worked.{timed, example, alone, pair, fork, spare, chain, full, aloneAtHome, chainAtHome, forkFilled, filledAbove, leastIsOne, busyBank, slowWrites, fourRanks, ticks, reads, everySecond, eachTurn, refilled, behindReads, logFrom, turnsIn, turnsFrom, commandsFrom, passedFrom, waitsAt, epochOfLeast, twoEpochs, startOf, printed, printedRanked, Case, table, WorkedTurns}
 use Rattle.state.specs.declared.State.{State}
 use Rattle.requests.specs.declared.Call.{Call}
 use Rattle.requests.specs.declared.Call.the-variants.{Tick, Offer, Malformed}
@@ -56,7 +56,7 @@ unfolding timed example policyOf listOf every some setOf sum member includes bel
 policy-computed p = p
 
 refusal-computed : Policy → ℕ
-unfolding policy-computed rowFits rowsFit antisymmetricAt antisymmetric transitiveAt transitive hasLeast leastAt minimumsSum minimumsBelow turnsSound within gapsWithin bankWithin timingSound firstFailing policyTests refusal
+unfolding policy-computed rowFits rowsFit antisymmetricAt antisymmetric transitiveAt transitive hasLeast leastAt minimumsSum minimumsBelow turnsSound within gapsWithin bankWithin rankWithin timingSound firstFailing policyTests refusal
 refusal-computed p = refusal p
 
 range-computed : Policy → Bool
@@ -64,14 +64,14 @@ unfolding refusal-computed coversOf cap isClass storedFits minimum allStoredFits
 range-computed p = inRange p
 
 file-computed : List ℕ → Reading
-unfolding refusal-computed printed byte word kind start bodySize kindsFit bodiesAbut contentsFit classCount lengthsFit rowAt epochOf minimumAt timingOf held noPolicy fileTests status refusedWith readFile
+unfolding refusal-computed printed printedRanked byte word kind start bodySize kindsFit bodiesAbut contentsFit classCount lengthsFit rowAt epochOf minimumAt ranksOf rankGapOf timingOf held noPolicy fileTests status refusedWith readFile
 file-computed file = readFile file
 
 -- ---- logs, each call without the test of its range
 
 plain : Policy → State → Call → Answer
 plain p s Tick = ticked (tickOn p s)
-plain p s (Offer r) = offered (offerOn s r)
+plain p s (Offer r) = offered (offerOn (p .timing .ranks) s r)
 plain p s Malformed = record { state = s; status = 14; command = 0; response = 0; turn = 0 }
 
 plain-log : Policy → State → List ℕ → List ℕ
@@ -123,7 +123,7 @@ at-right p s (w ∷ ws) t e =
     (either now)
 
 log-computed : Policy → List ℕ → List ℕ
-unfolding policy-computed plain plain-log ticks reads callOf isOffer requestOf wordOf classOf kindOf bankOf tagOf columnNumber commandNumber classFits bankAndKindFit offerOn offerStatus queuesAfter enqueue dequeue headOf lengthOf place waitingAt passedOf closedUp passedAfter freshState stateAtStart emptyQueues nothingInFlight zeros silent afterTick tickOn turnsAt turnStarts turnNumber turnWord mayGo goesAt going canActivate drive answered dueAt sentAt activateAt activateNext activateKind opensAt gapMet gapsMetBy gapsMet offsetAllows activated first count size nth moved movedPointer named takesBy takes passedAt endsAt tryClass charge goesOn reaches nextLeft firstClass elides leftAtStart ownedBy startTurn least leastIn flowsIn leastAt every member freeTurns homeTurnIn homePlace minimumsBelow homeAt minimumsSum homeTurn homeClass flows takesHome leftTried charged
+unfolding policy-computed plain plain-log ticks reads callOf isOffer requestOf wordOf bankInWord classOf rankOf kindOf bankOf tagOf bankPlace columnNumber commandNumber classFits bankKindRankFit offerOn offerStatus queuesAfter enqueue dequeue headOf lengthOf place waitingAt passedOf closedUp passedAfter freshState stateAtStart emptyQueues nothingInFlight zeros silent afterTick tickOn turnsAt turnStarts turnNumber turnWord mayGo goesAt going canActivate drive answered dueAt sentAt activateAt activateNext activateRank activateKind opensAt gapMet rankOpens rankGapMet gapsMetBy gapsMet offsetAllows activated first count size nth moved movedPointer named takesBy takes passedAt endsAt tryClass charge goesOn reaches nextLeft firstClass elides leftAtStart ownedBy startTurn least leastIn flowsIn leastAt every member freeTurns homeTurnIn homePlace minimumsBelow homeAt minimumsSum homeTurn homeClass flows takesHome leftTried charged
 log-computed p ws = plain-log p (freshState p) ws
 
 -- every state reached from the fresh one of a policy in range is in range
@@ -197,7 +197,7 @@ also e es = ap₂ (λ (l : List ℕ) (ls : List (List ℕ)). l ∷ ls) e es
 
 -- each of its policies is in range; that is computed too, so its proof is `refl`
 cases : map (λ (c : Case). c .yielded) table ≡ map (λ (c : Case). c .stated) table
-unfolding table alone pair fork chain full aloneAtHome chainAtHome forkFilled filledAbove leastIsOne busyBank slowWrites startOf turns-computed owned-computed commands-computed passed-computed file-computed range-computed eachTurn refilled behindReads
+unfolding table alone pair fork chain full aloneAtHome chainAtHome forkFilled filledAbove leastIsOne busyBank slowWrites fourRanks startOf turns-computed owned-computed commands-computed passed-computed file-computed range-computed eachTurn refilled behindReads
 cases =
     also (turns-from alone refl (ticks 13))
     (also (turns-from pair refl (reads 3 0 ++ ticks 9))
@@ -224,7 +224,11 @@ cases =
     (also
     (ap₂ (λ (i j : ℕ). i ∷ j ∷ passedFrom slowWrites (behindReads 16 ++ ticks 6) ∷ passedFrom slowWrites (behindReads 16 ++ ticks 7) ∷ []) (passed-from slowWrites refl (behindReads 15)) (passed-from slowWrites refl (behindReads 16))
     ∙ ap₂ (λ (i j : ℕ). passed-computed slowWrites (behindReads 15) ∷ passed-computed slowWrites (behindReads 16) ∷ i ∷ j ∷ []) (passed-from slowWrites refl (behindReads 16 ++ ticks 6)) (passed-from slowWrites refl (behindReads 16 ++ ticks 7)))
-    refl))))))))))))))))))))))
+    (also refl
+    (also (from-fresh (readFile (printedRanked 2) .policy) refl (0x80010007 ∷ 0 ∷ 0 ∷ 0 ∷ []))
+    (also (ap₂ _++_ (from-fresh busyBank refl (0x80400000 ∷ [])) (from-fresh fourRanks refl (0x80400000 ∷ 0x80C00000 ∷ [])))
+    (also (commands-from fourRanks refl (0x80000001 ∷ 0x80400002 ∷ 0x80400003 ∷ ticks 11))
+    refl))))))))))))))))))))))))))
 
 -- what W-209's rows count is its premise
 waiting : (p : Policy) (ws : List ℕ) (c k : ℕ) → (waitsAt p ws c k ≡ true) ↔ (Started p ws k × Waits p ws k c)

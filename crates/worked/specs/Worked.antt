@@ -1,4 +1,4 @@
--- Document 01's "Worked turns" (a) to (h), of which W-202 changes (c) and (d), W-202's own, W-209's and W-203's: one table, whose cases the definitions yield. (a) and (e) speak of every turn, so they are stated of
+-- Document 01's "Worked turns" (a) to (h), of which W-202 changes (c) and (d), W-202's own, W-209's, W-203's and W-206's: one table, whose cases the definitions yield. (a) and (e) speak of every turn, so they are stated of
 -- every policy too.
 use mathlib.Core.Path.{_≡_}
 use mathlib.Core.Logic.{_↔_}
@@ -19,9 +19,9 @@ use Rattle.rules.specs.Calls.{stateAfter, logOf}
 use Rattle.rules.specs.Overtaking.{commandsIn}
 use Rattle.rules.specs.Guarantees.{ticksIn, atTick, firstTick, Started, Waits, ownedIn}
 
--- a policy by its rows, its epoch, its minimums and its timing
+-- a policy by its rows, its epoch, its minimums and its timing, of ten numbers or of eleven
 unfoldable pub timed : List ℕ → ℕ → List ℕ → ℕ → List ℕ → Policy
-timed rows epoch minimums n timing = policyOf n (λ i. getD rows i 0) epoch (λ i. getD minimums i 0) (λ i. getD timing i 0)
+timed rows epoch minimums n timing = policyOf n (λ i. getD rows i 0) epoch (λ i. getD minimums i 0) (length timing) (λ i. getD timing i 0)
 
 -- with the timing of the printed log
 unfoldable pub example : List ℕ → ℕ → List ℕ → ℕ → Policy
@@ -78,6 +78,10 @@ busyBank = timed (1 ∷ []) 1 (0 ∷ []) 1 (20 ∷ 8 ∷ 1 ∷ 2 ∷ 2 ∷ 1 ∷
 -- one class alone in turns of 64 cycles, where a write waits 8 cycles after a read, and all other gaps are 1
 unfoldable pub slowWrites : Policy
 slowWrites = timed (1 ∷ []) 1 (0 ∷ []) 1 (64 ∷ 8 ∷ 1 ∷ 8 ∷ 1 ∷ 1 ∷ 1 ∷ 1 ∷ 1 ∷ 2 ∷ [])
+
+-- W-206: the policy of the busy bank with a rank gap of 3, so with four ranks
+unfoldable pub fourRanks : Policy
+fourRanks = timed (1 ∷ []) 1 (0 ∷ []) 1 (20 ∷ 8 ∷ 1 ∷ 2 ∷ 2 ∷ 1 ∷ 6 ∷ 6 ∷ 1 ∷ 2 ∷ 3 ∷ [])
 
 -- ---- traces and logs
 
@@ -147,6 +151,11 @@ startOf p k lengths left = let start = startTurn p k lengths left (zeros 16) in 
 unfoldable pub printed : ℕ → ℕ → List ℕ
 printed m₀ m₁ =
     0x03 ∷ 0x01 ∷ 0x10 ∷ 0x00 ∷ 0x05 ∷ 0x00 ∷ 0x02 ∷ 0x15 ∷ 0x00 ∷ 0x03 ∷ 0x00 ∷ 0x03 ∷ 0x18 ∷ 0x00 ∷ 0x0A ∷ 0x00 ∷ 0x02 ∷ 0x03 ∷ 0x00 ∷ 0x02 ∷ 0x00 ∷ 0x03 ∷ m₀ ∷ m₁ ∷ 0x04 ∷ 0x02 ∷ 0x02 ∷ 0x02 ∷ 0x02 ∷ 0x02 ∷ 0x02 ∷ 0x02 ∷ 0x01 ∷ 0x02 ∷ []
+
+-- W-206: the same file with an eleventh byte in its timing body
+unfoldable pub printedRanked : ℕ → List ℕ
+printedRanked gap =
+    0x03 ∷ 0x01 ∷ 0x10 ∷ 0x00 ∷ 0x05 ∷ 0x00 ∷ 0x02 ∷ 0x15 ∷ 0x00 ∷ 0x03 ∷ 0x00 ∷ 0x03 ∷ 0x18 ∷ 0x00 ∷ 0x0B ∷ 0x00 ∷ 0x02 ∷ 0x03 ∷ 0x00 ∷ 0x02 ∷ 0x00 ∷ 0x03 ∷ 0x00 ∷ 0x02 ∷ 0x04 ∷ 0x02 ∷ 0x02 ∷ 0x02 ∷ 0x02 ∷ 0x02 ∷ 0x02 ∷ 0x02 ∷ 0x01 ∷ 0x02 ∷ gap ∷ []
 
 -- ---- the table
 
@@ -236,6 +245,27 @@ table =
           passedFrom slowWrites (behindReads 15) ∷ passedFrom slowWrites (behindReads 16) ∷ passedFrom slowWrites (behindReads 16 ++ ticks 6) ∷ passedFrom slowWrites (behindReads 16 ++ ticks 7)
           ∷ [];
       stated = 14 ∷ 15 ∷ 15 ∷ 0 ∷ [];
+    }
+    -- W-206: "The timing body may have an eleventh byte, the rank gap (1 to the dead time)": of the printed file with an eleventh byte of 0, 1, 2 and 3, where the dead time is 2
+    ∷ record {
+      yielded = readFile (printedRanked 0) .status ∷ readFile (printedRanked 1) .status ∷ readFile (printedRanked 2) .status ∷ readFile (printedRanked 3) .status ∷ [];
+      stated = 8 ∷ 0 ∷ 0 ∷ 8 ∷ [];
+    }
+    -- the printed log again, whose words have both bits 0, with that eleventh byte
+    ∷ record {
+      yielded = logFrom (readFile (printedRanked 2) .policy) (0x80010007 ∷ 0 ∷ 0 ∷ 0 ∷ []);
+      stated = 0 ∷ 0 ∷ 0 ∷ 0 ∷ 0 ∷ 0x80010007 ∷ 0 ∷ 0x101 ∷ 0 ∷ 0xC0010007 ∷ 0 ∷ 0 ∷ 0 ∷ 0 ∷ 0x80010007 ∷ 0 ∷ [];
+    }
+    -- "With ten bytes a rank other than 0 is refused with 10": a read of rank 1, without and with an eleventh byte, and one of rank 3
+    ∷ record {
+      yielded = logFrom busyBank (0x80400000 ∷ []) ++ logFrom fourRanks (0x80400000 ∷ 0x80C00000 ∷ []);
+      stated = 10 ∷ zeros 11;
+    }
+    -- "kept from the last activate of all where that was on another rank, besides the other gaps; a bank is then known by rank and bank". A read of bank 0 on rank 0 and two of bank 0 on rank 1: the first of rank 1 waits for the rank
+    -- gap alone, 3 cycles, not for the 6 of the bank with its number; the second is on the rank of the last activate, and waits the 6 cycles of its bank
+    ∷ record {
+      yielded = commandsFrom fourRanks (0x80000001 ∷ 0x80400002 ∷ 0x80400003 ∷ ticks 11);
+      stated = zeros 3 ++ (0x80000001 ∷ 0xC0000001 ∷ 0 ∷ 0x80400002 ∷ 0xC0400002 ∷ 0 ∷ 0 ∷ 0 ∷ 0 ∷ 0x80400003 ∷ 0xC0400003 ∷ []);
     }
     ∷ []
 

@@ -49,8 +49,8 @@ pub struct Model(pub Planted);
 
 impl Calls for Model {
     fn run(&self, policy: &[u8], trace: &[u32], log: &mut [u32]) -> u32 {
-        let (policy, refusal) = policy::read(policy);
-        let (mut state, _) = state::fresh(&policy);
+        let (policy, refusal) = policy::read_planted(policy, self.0);
+        let (mut state, _) = state::fresh_planted(&policy, self.0);
         let run = || run_planted(&policy, &mut state, trace, log, self.0);
         refusal
             .map_or_else(run, Err)
@@ -65,7 +65,7 @@ impl Calls for Model {
         log: &[u32],
         out: &mut [u32],
     ) -> (usize, u32) {
-        let (policy, refusal) = policy::read(policy);
+        let (policy, refusal) = policy::read_planted(policy, self.0);
         if let Some(refusal) = refusal {
             return (0, refusal.number());
         }

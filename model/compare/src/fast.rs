@@ -1,4 +1,4 @@
-//! The rules of document 01, with requests W-201, W-202 and W-203 of document 02,
+//! The rules of document 01, with requests W-201, W-202, W-203 and W-206 of document 02,
 //! written for speed: the measure of what a run could cost.
 //!
 //! One struct holds policy and state in fixed arrays and is changed in place.
@@ -8,8 +8,8 @@
 //! looked through once for each time that one of them could go, and not at each tick.
 
 use vigambul_model::masks::class_mask;
-use vigambul_model::policy::{self, Policy, LONGEST_EPOCH, MOST_CLASSES};
-use vigambul_model::state::{BANKS, LAST_CYCLE, MOST_PASSES, QUEUE_LIMIT};
+use vigambul_model::policy::{self, Policy, Timing, LONGEST_EPOCH, MOST_CLASSES};
+use vigambul_model::state::{LAST_CYCLE, MOST_PASSES, QUEUE_LIMIT};
 use vigambul_model::trace::{COLUMN_BIT, ELIDED, LINE, OFFER_BIT};
 
 /// Commands and answers in flight lie in rings by the cycle they are due at.
@@ -17,8 +17,23 @@ use vigambul_model::trace::{COLUMN_BIT, ELIDED, LINE, OFFER_BIT};
 /// activate of this cycle fills.
 const SLOTS: usize = 32;
 
-/// Bits 22, 23, 29 and 30, which are 0 in an offer.
-const UNUSED_BITS: u32 = 0x60C0_0000;
+/// Bits 29 and 30, which are 0 in an offer.
+const UNUSED_BITS: u32 = 0x6000_0000;
+
+/// The upper bit of the kind and that of the bank: kind above 1, or bank above 7.
+const KIND_AND_BANK_TOO_HIGH: u32 = 1 << 21 | 1 << 19;
+/// Bits 22 and 23.
+const RANK_BITS: u32 = 3 << 22;
+
+/// Kind and rank as a word has them, in bits 20 to 23.
+const KINDS_AND_RANKS: usize = 16;
+/// A kind of 2, of which there is no request: in its place of a row stands the shortest gap.
+const SHORTEST: usize = 2;
+
+/// Bank and rank as a word has them, in bits 16 to 23, of which two are the kind. The banks are
+/// told apart by these bits as they stand: to move them together takes longer.
+const BANK_PLACES: usize = 256;
+const BANK_AND_RANK: usize = 0xC7;
 
 /// Marks a home turn in the plan; the bits below it are the class.
 const HOME: u8 = 1 << 4;
@@ -51,9 +66,11 @@ pub struct Controller {
     epoch: u32,
     turn_length: u32,
     dead_time: u32,
-    /// By the earlier kind, then the later.
-    gaps: [[u32; 2]; 2],
+    /// From the last activate of all, in a row for the earlier kind and rank, by the later.
+    gaps: [[u8; KINDS_AND_RANKS]; KINDS_AND_RANKS],
     bank_gaps: [u32; 2],
+    /// The bits for which 10 refuses an offer.
+    refused_bits: u32,
     column_delay: u32,
     answer_delay: u32,
 
@@ -82,10 +99,11 @@ pub struct Controller {
     /// The word that is due at each cycle to come, by the cycle modulo 32.
     columns: [u32; SLOTS],
     answers: [u32; SLOTS],
-    /// The first cycle at which the last activate lets one of each kind out.
-    kind_ready: [u32; 2],
+    /// The cycle of the last activate, and its row of gaps; of none yet they are 0.
+    last_activate: u32,
+    last_gaps: [u8; KINDS_AND_RANKS],
     /// The first cycle at which the last activate of a bank lets another out.
-    bank_ready: [u32; BANKS],
+    bank_ready: [u32; BANK_PLACES],
     /// Before this cycle none of the owner's waiting requests can go.
     none_before: u32,
 }
@@ -122,8 +140,12 @@ impl Controller {
             epoch: u32::from(policy.epoch),
             turn_length: u32::from(timing.turn_length),
             dead_time: u32::from(timing.dead_time),
-            gaps: timing.gaps.map(|later| later.map(u32::from)),
+            gaps: [[0; KINDS_AND_RANKS]; KINDS_AND_RANKS],
             bank_gaps: timing.bank_gaps.map(u32::from),
+            refused_bits: match timing.rank_gap {
+                Some(_) => KIND_AND_BANK_TOO_HIGH,
+                None => KIND_AND_BANK_TOO_HIGH | RANK_BITS,
+            },
             column_delay: u32::from(timing.column_delay),
             answer_delay: u32::from(timing.response_delay),
             cycle: 0,
@@ -141,10 +163,12 @@ impl Controller {
             marks: [0; MOST_CLASSES],
             columns: [0; SLOTS],
             answers: [0; SLOTS],
-            kind_ready: [0; 2],
-            bank_ready: [0; BANKS],
+            last_activate: 0,
+            last_gaps: [0; KINDS_AND_RANKS],
+            bank_ready: [0; BANK_PLACES],
             none_before: 0,
         };
+        controller.set_gaps(timing);
         controller.rows[..n].copy_from_slice(&policy.rows);
         controller.caps[..n].copy_from_slice(&policy.caps);
         for class in 0..n {
@@ -171,6 +195,22 @@ impl Controller {
         }
         // Turns left and window are set when the first tick starts an epoch.
         controller
+    }
+
+    /// Of each two kinds and ranks the gap by kinds or, if that is longer and the ranks
+    /// differ, the rank gap.
+    fn set_gaps(&mut self, timing: &Timing) {
+        let kinds_and_ranks = || (0..KINDS_AND_RANKS).filter(|both| both & SHORTEST == 0);
+        for earlier in kinds_and_ranks() {
+            for later in kinds_and_ranks() {
+                let by_kinds = timing.gaps[earlier & 1][later & 1];
+                let same_rank = earlier >> 2 == later >> 2;
+                let by_ranks = timing.rank_gap.filter(|_| !same_rank).unwrap_or(0);
+                self.gaps[earlier][later] = by_kinds.max(by_ranks);
+            }
+            let [to_read, to_write] = timing.gaps[earlier & 1];
+            self.gaps[earlier][SHORTEST] = to_read.min(to_write);
+        }
     }
 
     /// Runs a trace into a log of at least four times its length.
@@ -202,9 +242,7 @@ impl Controller {
         if class >= self.class_count {
             return CLASS;
         }
-        // The upper bit of the kind and that of the bank: kind above 1, or
-        // bank above 7.
-        if word & (1 << 21 | 1 << 19) != 0 {
+        if word & self.refused_bits != 0 {
             return BANK_OR_KIND;
         }
         let length = self.lengths[class];
@@ -216,7 +254,7 @@ impl Controller {
         self.lengths[class] = length + 1;
         self.waiting |= class_mask(class);
         // It may be the owner's, and may go before those that were looked at.
-        self.none_before = self.kinds_ready();
+        self.none_before = self.any_ready();
         0
     }
 
@@ -293,15 +331,15 @@ impl Controller {
     fn activate(&mut self, owner: usize, word: u32) -> u32 {
         let cycle = self.cycle;
         let kind = (word >> 20 & 1) as usize;
-        let bank = (word >> 16) as usize % BANKS;
         self.heads[owner] = (self.heads[owner] + 1) % QUEUE_LIMIT as u8;
         self.lengths[owner] -= 1;
         if self.lengths[owner] == 0 {
             self.waiting &= !class_mask(owner);
         }
-        self.kind_ready = self.gaps[kind].map(|gap| cycle + gap);
-        self.bank_ready[bank] = cycle + self.bank_gaps[kind];
-        self.none_before = self.kinds_ready();
+        self.last_activate = cycle;
+        self.last_gaps = self.gaps[kind_and_rank(word)];
+        self.bank_ready[bank_place(word)] = cycle + self.bank_gaps[kind];
+        self.none_before = self.any_ready();
         self.columns[(cycle + self.column_delay) as usize % SLOTS] = word;
         self.answers[(cycle + self.answer_delay) as usize % SLOTS] = word;
         word
@@ -310,15 +348,16 @@ impl Controller {
     /// The first cycle at which all gaps of a request are met.
     #[inline]
     fn ready(&self, word: u32) -> u32 {
-        let kind = (word >> 20 & 1) as usize;
-        let bank = (word >> 16) as usize % BANKS;
-        self.kind_ready[kind].max(self.bank_ready[bank])
+        let gap = self.last_gaps[kind_and_rank(word)];
+        let ready = self.last_activate + u32::from(gap);
+        ready.max(self.bank_ready[bank_place(word)])
     }
 
     /// The first cycle at which the last activate lets any other out.
     #[inline]
-    fn kinds_ready(&self) -> u32 {
-        self.kind_ready[0].min(self.kind_ready[1])
+    fn any_ready(&self) -> u32 {
+        let gap = self.last_gaps[SHORTEST];
+        self.last_activate + u32::from(gap)
     }
 
     /// Starts a turn and gives its number in the log.
@@ -329,7 +368,7 @@ impl Controller {
         }
         self.walk(self.plan[self.turn_in_epoch as usize]);
         // What was looked at were another owner's requests.
-        self.none_before = self.kinds_ready();
+        self.none_before = self.any_ready();
         self.turn_in_epoch += 1;
         if self.turn_in_epoch == self.epoch {
             self.turn_in_epoch = 0;
@@ -412,6 +451,18 @@ impl Controller {
     fn child(&self, class: usize, mark: u8) -> usize {
         usize::from(self.children[class][usize::from(mark) - 1])
     }
+}
+
+/// The kind and the rank of an offer's word.
+#[inline]
+fn kind_and_rank(word: u32) -> usize {
+    (word >> 20) as usize % KINDS_AND_RANKS
+}
+
+/// The place of an offer's bank among those of all ranks.
+#[inline]
+fn bank_place(word: u32) -> usize {
+    (word >> 16) as usize & BANK_AND_RANK
 }
 
 /// Empties a slot and gives what was in it. Most are empty, and are left alone.

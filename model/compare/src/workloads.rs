@@ -1,12 +1,12 @@
 //! The policies and traces that speed is measured on.
 
 use vigambul_model::generate::{
-    antichain_rows, busy_bank_offer, chain_rows, malformed_word, missing_class_word, refused_offer,
-    sound_offer, PolicyFields,
+    antichain_rows, busy_bank_offer, chain_rows, malformed_word, missing_class_word, on_rank,
+    refused_offer, sound_offer, PolicyFields,
 };
 use vigambul_model::policy::{self, Policy, MOST_CLASSES};
 use vigambul_model::random::Random;
-use vigambul_model::state::QUEUE_LIMIT;
+use vigambul_model::state::{QUEUE_LIMIT, RANKS};
 use vigambul_model::trace::COLUMN_BIT;
 
 use crate::fast::Controller;
@@ -28,6 +28,9 @@ const LONG_TURNS: [u8; 10] = [255, 6, 2, 3, 3, 2, 4, 6, 2, 5];
 /// for again is busy for long.
 const BUSY_BANK: [u8; 10] = [64, 16, 2, 4, 4, 2, 16, 16, 3, 8];
 
+/// Longer than the shortest gap by kinds: a request on the last one's rank may pass others.
+const RANK_GAP: u8 = 3;
+
 /// The workloads of the main table, each of so many trace numbers.
 pub fn main_workloads(length: usize) -> Vec<Workload> {
     vec![
@@ -38,6 +41,15 @@ pub fn main_workloads(length: usize) -> Vec<Workload> {
             single(BUSY_BANK),
             length,
             |random, class| busy_bank_offer(random, class, 0, 25),
+        ),
+        kept_full(
+            "one class, four ranks, saturated",
+            single(TIMING).with_rank_gap(RANK_GAP),
+            length,
+            |random, class| {
+                let word = sound_offer(random, class, 8);
+                on_rank(word, random.below(RANKS))
+            },
         ),
         saturated("chain of 16, saturated", chain(TIMING), length),
         idle("chain of 16, idle", chain(TIMING), length),

@@ -45,6 +45,10 @@ pub enum Wrong {
     ShowsWordsWithoutBit31,
     HidesWordsThatAreNoOffers,
     CutsWords,
+    /// Bits 22 and 23 are cut from words alone.
+    CutsRanks,
+    /// Offers with bit 22 or 23 are dropped, as malformed words are: so it was before W-206.
+    DropsOffersOfOtherRanks,
     WritesPastTheCount,
     WritesBeforeItRefuses,
     CountsWhereItRefuses,
@@ -70,7 +74,7 @@ pub const LEAKS: [Wrong; 10] = [
 ];
 
 /// Wrong extracts that only a comparison with right ones finds.
-pub const OTHERS: [Wrong; 21] = [
+pub const OTHERS: [Wrong; 23] = [
     Wrong::DropsRefusedOffers,
     Wrong::DropsRefusedTicks,
     Wrong::HidesInLinesOfOffers,
@@ -84,6 +88,8 @@ pub const OTHERS: [Wrong; 21] = [
     Wrong::ShowsWordsWithoutBit31,
     Wrong::HidesWordsThatAreNoOffers,
     Wrong::CutsWords,
+    Wrong::CutsRanks,
+    Wrong::DropsOffersOfOtherRanks,
     Wrong::WritesPastTheCount,
     Wrong::WritesBeforeItRefuses,
     Wrong::CountsWhereItRefuses,
@@ -208,6 +214,8 @@ impl View<'_> {
                     self.is(Wrong::KeepsOffersOfMissingClasses)
                 } else if !self.sees(class) {
                     self.is(Wrong::KeepsOffersOfHiddenClasses)
+                } else if request.rank != 0 && self.is(Wrong::DropsOffersOfOtherRanks) {
+                    false
                 } else {
                     !(refused && self.is(Wrong::DropsRefusedOffers))
                 }
@@ -261,6 +269,8 @@ impl View<'_> {
             0
         } else if self.is(Wrong::CutsWords) {
             word & 0xDF3F_FFFF
+        } else if self.is(Wrong::CutsRanks) {
+            word & !(3 << 22)
         } else {
             word
         }

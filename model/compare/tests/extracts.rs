@@ -382,10 +382,10 @@ fn any_word(random: &mut Random) -> u32 {
         // A class, with any bits around it.
         4 | 5 => any & !(0x1F << 24) | low_class,
         // An offer's word or a column command, of any class.
-        6 => OFFER_BIT | class | any & 0x003F_FFFF,
-        7 => OFFER_BIT | COLUMN_BIT | class | any & 0x0017_FFFF,
+        6 => OFFER_BIT | class | any & 0x00FF_FFFF,
+        7 => OFFER_BIT | COLUMN_BIT | class | any & 0x00D7_FFFF,
         // The same of a class that likely exists.
-        8 => OFFER_BIT | low_class | any & 0x0017_FFFF,
+        8 => OFFER_BIT | low_class | any & 0x00D7_FFFF,
         // No bit but the class.
         _ => class,
     }
@@ -423,11 +423,15 @@ struct Shown {
     offers_kept_with_any_numbers: u64,
     hidden_offers_dropped: u64,
     missing_offers_dropped: u64,
+    offers_of_ranks_kept: u64,
+    refused_offers_of_ranks_kept: u64,
+    offers_of_ranks_dropped: u64,
     malformed_words_dropped: u64,
     ticks_kept: u64,
     refused_ticks_kept: u64,
     commands_seen: u64,
     columns_seen: u64,
+    ranks_seen: u64,
     commands_hidden: u64,
     commands_of_missing_classes: u64,
     answers_seen: u64,
@@ -447,7 +451,7 @@ struct Shown {
 }
 
 impl Shown {
-    fn counts(&self) -> [(&'static str, u64); 26] {
+    fn counts(&self) -> [(&'static str, u64); 30] {
         [
             ("offers kept", self.offers_kept),
             ("offers kept, refused", self.refused_offers_kept),
@@ -463,11 +467,28 @@ impl Shown {
                 "offers of missing classes dropped",
                 self.missing_offers_dropped,
             ),
+            // W-206.
+            (
+                "offers of ranks other than 0 kept",
+                self.offers_of_ranks_kept,
+            ),
+            (
+                "offers of ranks other than 0 kept, refused with ten timing bytes",
+                self.refused_offers_of_ranks_kept,
+            ),
+            (
+                "offers of ranks other than 0 dropped",
+                self.offers_of_ranks_dropped,
+            ),
             ("malformed words dropped", self.malformed_words_dropped),
             ("ticks kept", self.ticks_kept),
             ("ticks kept, refused", self.refused_ticks_kept),
             ("commands seen", self.commands_seen),
             ("commands seen, columns", self.columns_seen),
+            (
+                "commands and answers of ranks other than 0 seen",
+                self.ranks_seen,
+            ),
             ("commands hidden", self.commands_hidden),
             (
                 "commands of missing classes hidden",
@@ -520,15 +541,24 @@ impl Shown {
         for (&number, line) in trace.iter().zip(log.chunks_exact(LINE)) {
             match Word::of(number) {
                 Word::Malformed => self.malformed_words_dropped += 1,
-                Word::Offer(request) => match usize::from(request.class) {
-                    other if other >= n => self.missing_offers_dropped += 1,
-                    other if !sees(other) => self.hidden_offers_dropped += 1,
-                    _ => {
-                        self.offers_kept += 1;
-                        self.refused_offers_kept += u64::from(line[0] != 0);
-                        self.offers_kept_with_any_numbers += u64::from(line[1..] != [0; 3]);
+                Word::Offer(request) => {
+                    let of_rank = u64::from(request.rank != 0);
+                    let ten_bytes = u64::from(policy.timing.rank_gap.is_none());
+                    match usize::from(request.class) {
+                        other if sees(other) => {
+                            self.offers_kept += 1;
+                            self.refused_offers_kept += u64::from(line[0] != 0);
+                            self.offers_kept_with_any_numbers += u64::from(line[1..] != [0; 3]);
+                            self.offers_of_ranks_kept += of_rank;
+                            self.refused_offers_of_ranks_kept += of_rank * ten_bytes;
+                        }
+                        other => {
+                            self.missing_offers_dropped += u64::from(other >= n);
+                            self.hidden_offers_dropped += u64::from(other < n);
+                            self.offers_of_ranks_dropped += of_rank;
+                        }
                     }
-                },
+                }
                 Word::Tick => {
                     self.ticks_kept += 1;
                     self.refused_ticks_kept += u64::from(line[0] != 0);
@@ -549,6 +579,7 @@ impl Shown {
             let no_offer = u64::from(word & OFFER_BIT == 0);
             if sees(other) {
                 self.no_offers_seen += no_offer;
+                self.ranks_seen += u64::from(word >> 22 & 3 != 0);
                 if command {
                     self.commands_seen += 1;
                     self.columns_seen += u64::from(word & COLUMN_BIT != 0);

@@ -90,7 +90,7 @@ fn saturated_workloads_keep_every_queue_filled() {
         assert!(long_turns || owned.iter().all(|&owned| owned), "{name}");
         count += 1;
     }
-    assert_eq!(count, 5, "saturated workloads");
+    assert_eq!(count, 6, "saturated workloads");
 }
 
 #[test]
@@ -114,6 +114,26 @@ fn idle_chains_ascend_from_every_height_and_idle_antichains_to_every_child() {
         let found = [(0..16).map(first).collect(), owners.collect::<Vec<_>>()];
         assert_eq!(found, expected, "{name}");
     }
+}
+
+/// The activates of the workload are on every rank, and some go just the rank gap after one on another.
+#[test]
+fn the_workload_of_ranks_waits_for_its_rank_gap() {
+    let mut workloads = workloads::main_workloads(50_000).into_iter();
+    let ranks = workloads.find(|workload| workload.name.contains("ranks"));
+    let ranks = ranks.expect("a workload of ranks");
+    let gap = accepted(&ranks.policy).timing.rank_gap.map(usize::from);
+    let log = model_log(&ranks.policy, &ranks.trace).expect(ranks.name);
+    let lines = ranks.trace.iter().zip(log.chunks_exact(LINE));
+    let ticks = lines.filter(|(&number, _)| number == 0).enumerate();
+    let activates = ticks.filter(|(_, (_, line))| line[1] >> 30 == 2);
+    let ranks_of: Vec<(usize, u32)> = activates
+        .map(|(cycle, (_, line))| (cycle, line[1] >> 22 & 3))
+        .collect();
+    assert!((0..4).all(|rank| ranks_of.iter().any(|&(_, other)| other == rank)));
+    let between = ranks_of.windows(2).filter(|both| both[0].1 != both[1].1);
+    let cycles: Vec<usize> = between.map(|both| both[1].0 - both[0].0).collect();
+    assert_eq!(cycles.iter().min().copied(), gap);
 }
 
 #[test]

@@ -187,11 +187,53 @@ static void words(void)
     }
 }
 
+/* Ranks: offers on each of them, with ten timing bytes and with an eleventh, a rank gap. */
+static void ranks(void)
+{
+    static const uint8_t timing[] = {4, 2, 2, 2, 2, 2, 2, 2, 1, 2, 2};
+    enum { TEN = sizeof POLICY, FOUR = 4, TICKS = 20 };
+    uint8_t policy[TEN + 1];
+    uint32_t trace[FOUR + TICKS];
+    uint32_t log[4 * COUNT(trace)];
+    uint32_t seen[FOUR] = {0, 0, 0, 0};
+    uint32_t i;
+    memcpy(policy, POLICY, sizeof POLICY);
+    policy[14] = sizeof timing;
+    memcpy(policy + TEN + 1 - sizeof timing, timing, sizeof timing);
+
+    expect(VIGAMBUL_OFFER_ON(3, 2, 1, 5, 7) == 0x83950007 && VIGAMBUL_OFFER_ON(3, 0, 1, 5, 7) == VIGAMBUL_OFFER(3, 1, 5, 7), "an offer's rank");
+    expect(VIGAMBUL_OFFER_ON(0, 4 + 3, 0, 0, 0) == 0x80C00000, "a rank that is too large");
+    for (i = 0; i < COUNT(trace); i++)
+        trace[i] = i < FOUR ? VIGAMBUL_OFFER_ON(0, i, 0, 3, i) : VIGAMBUL_TICK;
+    expect(vigambul_run(POLICY, COUNT(POLICY), trace, FOUR, log, COUNT(log)) == VIGAMBUL_TAKEN, "a run with ten timing bytes");
+    for (i = 0; i < FOUR; i++)
+        expect(log[4 * i] == (i == 0 ? (uint32_t)VIGAMBUL_TAKEN : (uint32_t)VIGAMBUL_REFUSED_BANK_KIND), "a rank with ten timing bytes");
+
+    expect(vigambul_run(policy, COUNT(policy), trace, COUNT(trace), log, COUNT(log)) == VIGAMBUL_TAKEN, "a run with eleven timing bytes");
+    for (i = 0; i < COUNT(trace); i++) {
+        const uint32_t command = log[4 * i + 1], answer = log[4 * i + 2];
+        expect(log[4 * i] == VIGAMBUL_TAKEN, "a rank with eleven timing bytes");
+        if (command != 0)
+            expect(VIGAMBUL_RANK(command) == VIGAMBUL_TAG(command), "a command's rank");
+        if (answer != 0) {
+            expect(VIGAMBUL_RANK(answer) == VIGAMBUL_TAG(answer), "an answer's rank");
+            seen[VIGAMBUL_RANK(answer)]++;
+        }
+    }
+    for (i = 0; i < FOUR; i++)
+        expect(seen[i] == 1, "an answer on each rank");
+    policy[TEN] = 3;
+    expect(vigambul_run(policy, COUNT(policy), NULL, 0, NULL, 0) == VIGAMBUL_REFUSED_TIMING, "a rank gap above the dead time");
+    policy[TEN] = 0;
+    expect(vigambul_run(policy, COUNT(policy), NULL, 0, NULL, 0) == VIGAMBUL_REFUSED_TIMING, "a rank gap of 0");
+}
+
 int main(void)
 {
     runs();
     extracts();
     refusals();
     words();
+    ranks();
     return failures == 0 ? 0 : 1;
 }

@@ -133,7 +133,7 @@ fn defined_in_c() -> BTreeSet<&'static str> {
 #[test]
 fn every_macro_and_number_of_the_header_is_tried() {
     let defined = defined_in_c();
-    assert_eq!(defined.len(), 29, "{defined:?}");
+    assert_eq!(defined.len(), 31, "{defined:?}");
     for name in defined {
         assert!(CALLER_TEXT.contains(name), "{name}");
     }

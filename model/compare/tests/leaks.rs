@@ -31,9 +31,14 @@ const FILLER: u32 = 0x5AA5_5AA5;
 type Leak = (Check, String);
 
 /// Compares the pairs of some seeds, up to the first leak, which is told.
-fn search(calls: &impl Calls, seeds: Range<u64>, met: &mut Met) -> Option<Leak> {
+fn search(
+    calls: &impl Calls,
+    pair: impl Fn(u64) -> Pair,
+    seeds: Range<u64>,
+    met: &mut Met,
+) -> Option<Leak> {
     for seed in seeds {
-        let pair = leaks::pair(seed);
+        let pair = pair(seed);
         if let Err((check, what)) = compare(calls, &pair, met) {
             let what = format!("seed {seed}, class {}: {what}", pair.class);
             return Some((check, what));
@@ -133,7 +138,7 @@ fn difference([left, right]: &[Told; 2]) -> Option<Leak> {
 fn the_library_shows_no_leak() {
     let mut met = Met::default();
     let pairs = seeds("VIGAMBUL_PAIRS", ORDINARY_PAIRS);
-    assert_eq!(search(&Library, pairs, &mut met), None);
+    assert_eq!(search(&Library, leaks::pair, pairs, &mut met), None);
     println!("{}", met.report());
     assert_eq!(met.too_little(), [""; 0]);
 }
@@ -144,9 +149,9 @@ fn pairs_enough() -> Range<u64> {
 }
 
 /// The same search finds a leak in something that leaks.
-fn finds(calls: &impl Calls, name: &str) -> Option<Check> {
+fn finds(calls: &impl Calls, pair: impl Fn(u64) -> Pair, name: &str) -> Option<Check> {
     let mut met = Met::default();
-    let leak = search(calls, pairs_enough(), &mut met);
+    let leak = search(calls, pair, pairs_enough(), &mut met);
     println!("{name} after {} pairs: {leak:?}", met.pairs() + 1);
     assert!(leak.is_some(), "{name} was not found");
     leak.map(|(check, _)| check)
@@ -162,7 +167,10 @@ fn every_planted_leak_of_the_model_is_found() {
             Planted::HomeChargedIfHigherWaits => continue,
             // Each class's first activate after a hidden turn sets the one count to 0.
             Planted::OneCount => continue,
-            _ => finds(&Model(planted), &format!("{planted:?}")),
+            _ => {
+                let pair = |seed| leaks::pair_planted(seed, planted);
+                finds(&Model(planted), pair, &format!("{planted:?}"))
+            }
         };
         let by_the_run = planted == Planted::RunAnswersForItsLastWord;
         assert_eq!(check == Some(Check::Run), by_the_run, "{planted:?}");
@@ -184,7 +192,7 @@ fn every_extract_that_leaks_is_found() {
             Wrong::AsksRoomForAll | Wrong::SeesClassesAbove => Check::Room,
             _ => panic!("{wrong:?} is not said to leak"),
         };
-        let check = finds(&WithWrongExtract(wrong), &format!("{wrong:?}"));
+        let check = finds(&WithWrongExtract(wrong), leaks::pair, &format!("{wrong:?}"));
         assert_eq!(check, Some(expected), "{wrong:?}");
     }
 }
@@ -193,10 +201,10 @@ fn every_extract_that_leaks_is_found() {
 fn nothing_is_found_where_nothing_is_planted() {
     let met = &mut Met::default();
     let model = Model(Planted::Nothing);
-    assert_eq!(search(&model, pairs_enough(), met), None);
+    assert_eq!(search(&model, leaks::pair, pairs_enough(), met), None);
     // The extract whose wrong cousins are found.
     let right = WithWrongExtract(Wrong::Nothing);
-    assert_eq!(search(&right, pairs_enough(), met), None);
+    assert_eq!(search(&right, leaks::pair, pairs_enough(), met), None);
 }
 
 // ---------------------------------------------------------------------------

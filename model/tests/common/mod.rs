@@ -35,6 +35,14 @@ pub fn policy(rows: &[u16], epoch: u8, minimums: &[u8], timing: [u8; 10]) -> Pol
     policy
 }
 
+/// A policy with a rank gap, which must be accepted.
+pub fn ranked(rows: &[u16], epoch: u8, minimums: &[u8], timing: [u8; 10], rank_gap: u8) -> Policy {
+    let fields = PolicyFields::new(rows, epoch, minimums, timing);
+    let (policy, refusal) = policy::read(&fields.with_rank_gap(rank_gap).encode());
+    assert_eq!(refusal, None, "the file must be accepted");
+    policy
+}
+
 /// The policy of document 01's printed log.
 pub fn printed_policy() -> Policy {
     policy(&CHAIN_OF_TWO, 3, &[0, 2], TIMING)
@@ -65,11 +73,12 @@ pub fn file_number(file: &[u8]) -> u32 {
     policy::read(file).1.map_or(0, |refusal| refusal.number())
 }
 
-/// A read of bank 0.
+/// A read of bank 0, on rank 0.
 pub fn read_request(class: u8, tag: u16) -> Request {
     Request {
         class,
         kind: 0,
+        rank: 0,
         bank: 0,
         tag,
     }
@@ -127,11 +136,12 @@ pub fn always_waiting(policy: &Policy, classes: &[u8], turn_count: usize) -> Vec
     list
 }
 
-/// A request with a tag of its own.
+/// A request on rank 0 with a tag of its own.
 pub fn request(class: u8, kind: u8, bank: u8) -> Request {
     Request {
         class,
         kind,
+        rank: 0,
         bank,
         tag: 5,
     }
@@ -160,8 +170,10 @@ pub fn waiting(state: &mut State, class: usize, request: Request) {
     state.classes[class].queue.push_back(request);
 }
 
+/// A last activate on rank 0.
 pub fn last(cycle: u32, kind: Kind) -> Option<LastActivate> {
-    Some(LastActivate { cycle, kind })
+    let rank = 0;
+    Some(LastActivate { cycle, kind, rank })
 }
 
 /// A case's name, and what it changes in a busy state.

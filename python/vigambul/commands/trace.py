@@ -60,6 +60,7 @@ CSV has a header and a line for each request; the columns may stand in any order
   4,blue,write,5,
   24,,end,,
 The request is offered before the tick of its cycle. The tag may be left out. A line of kind end says how many cycles there are.
+Where the policy has a rank gap, a column rank (0 to 3) says on which rank the bank is.
 
 TOML has streams, each a burst of requests every so many cycles:
   cycles = 240
@@ -70,6 +71,7 @@ TOML has streams, each a burst of requests every so many cycles:
   banks = [0, 1, 2]
   writes = 0.25
   seed = 7
+Where the policy has a rank gap, ranks = [0, 1] has it use these ranks.
 
 docs/REFERENCE.md has all columns and keys.
 

@@ -1,50 +1,31 @@
--- `decisions::kind_opens` meets its contract: the gap read is that of the two kinds.
+-- `decisions::kind_opens` meets its contract: the gap picked is that of the two kinds.
 -- Assumes nothing.
-use mathlib.Core.Path.{sym, subst}
-use Prim.Native.Nat.{ℕ, _<_}
+use mathlib.Core.Path.{ap, sym, _∙_, subst}
+use Prim.Native.Nat.{ℕ, _+_, _*_, _%_, _<_}
 use native.Mathlib.Omega.{arith}
 use borrow.Author.Needs.{needs}
+use lib.ListN.{getD}
+use Rattle.rules.specs.Wire.{opensAt}
 use Rattle.rules.proofs.Wire.{kind-small}
 use Rattle.decisions.proofs.kind_opens.Statement.{statement}
 use Rattle.decisions.proofs.kind_opens.Tie as tie
 
--- a kind is 0 or 1
-of-last : (c : tie.After-activate-kind) → c .activate-kind .result < 2
-of-last c = subst (λ (k : ℕ). k < 2) (sym (c .activate-kind .ensures)) (kind-small (c .before .args .last))
-
 activate-kind-requires : tie.Need-activate-kind-requires
 activate-kind-requires c κs = search needs
 
-mul-after : tie.Need-mul-after
-mul-after c = omega (arith, of-last c)
-
-add-after : tie.Need-add-after
-add-after c = omega (arith, of-last c)
-
-cast-after : tie.Need-cast-after
-cast-after c = omega (arith, of-last c)
-
-mul-opens-at : tie.Need-mul-opens-at
-mul-opens-at c = omega (arith, of-last c)
-
-element-copy-out-opens-at : tie.Need-element-copy-out-opens-at
-element-copy-out-opens-at c = omega (arith, of-last c)
+kind-gap-requires : tie.Need-kind-gap-requires
+kind-gap-requires c κs = search needs
 
 opens-at-requires : tie.Need-opens-at-requires
 opens-at-requires c κs = search needs
 
 returns : tie.Need-returns
-returns c = rw (c .opens-at .ensures, c .before .before .activate-kind .ensures)
+returns c =
+    let kind = c .before .before in
+    let a = kind .before .before .args in
+    let earlier = kind .activate-kind .ensures in
+    let gap = c .before .kind-gap .ensures (subst (λ (k : ℕ). k < 2) (sym earlier) (kind-small (a .last))) (omega arith) in
+    c .opens-at .ensures ∙ ap (opensAt (a .last)) (gap ∙ ap (λ (k : ℕ). getD (a .timing .gaps) (2 * k + a .kind % 2) 0) earlier)
 
 pub kind-opens-spec : {M : Type 1} → statement M
-kind-opens-spec =
-    tie.close
-    (tie.spec
-    activate-kind-requires
-    mul-after
-    add-after
-    cast-after
-    mul-opens-at
-    element-copy-out-opens-at
-    opens-at-requires
-    returns)
+kind-opens-spec = tie.close (tie.spec activate-kind-requires kind-gap-requires opens-at-requires returns)

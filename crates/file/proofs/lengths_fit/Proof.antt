@@ -36,11 +36,14 @@ add-result-2 c = search needs
 body-size-requires-3 : tie.Need-body-size-requires-3
 body-size-requires-3 c κs = search needs
 
+body-size-requires-4 : tie.Need-body-size-requires-4
+body-size-requires-4 c κs = search needs
+
 returns : tie.Need-returns
 unfolding lengthsFit classCount within
 returns c =
-    let byte = c .before .before .before in
-    rw (c .body-size3 .ensures, c .before .body-size2 .ensures, c .before .before .body-size .ensures, byte .byte .ensures)
+    let body-size = c .before .before .before in
+    rw (c .body-size4 .ensures, c .before .body-size3 .ensures, c .before .before .body-size2 .ensures, body-size .body-size .ensures, body-size .before .byte .ensures)
 
 pub lengths-fit-spec : {M : Type 1} → statement M
 lengths-fit-spec =
@@ -56,4 +59,5 @@ lengths-fit-spec =
     cast-result-2
     add-result-2
     body-size-requires-3
+    body-size-requires-4
     returns)

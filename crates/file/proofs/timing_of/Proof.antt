@@ -68,10 +68,17 @@ add-number-9 c = search needs
 number-requires-10 : tie.Need-number-requires-10
 number-requires-10 c κs = search needs
 
+ranks-of-requires : tie.Need-ranks-of-requires
+ranks-of-requires c κs = search needs
+
+rank-gap-of-requires : tie.Need-rank-gap-of-requires
+rank-gap-of-requires c κs = search needs
+
 returns : tie.Need-returns
 unfolding timingOf
 returns c =
-    let number7 = c .before .before .before in
+    let number10 = c .before .before in
+    let number7 = number10 .before .before .before in
     let number6 = number7 .before in
     let number5 = number6 .before in
     let number4 = number5 .before in
@@ -79,7 +86,7 @@ returns c =
     let number2 = number3 .before in
     let number = number2 .before in
     let start = number .before in
-    rw (c .number10 .ensures, c .before .number9 .ensures, c .before .before .number8 .ensures, number7 .number7 .ensures, number6 .number6 .ensures, number5 .number5 .ensures, number4 .number4 .ensures, number3 .number3 .ensures, number2 .number2 .ensures, number .number .ensures, start .start .ensures)
+    rw (c .rank-gap-of .ensures, c .before .ranks-of .ensures, number10 .number10 .ensures, number10 .before .number9 .ensures, number10 .before .before .number8 .ensures, number7 .number7 .ensures, number6 .number6 .ensures, number5 .number5 .ensures, number4 .number4 .ensures, number3 .number3 .ensures, number2 .number2 .ensures, number .number .ensures, start .start .ensures)
 
 pub timing-of-spec : {M : Type 1} → statement M
 timing-of-spec =
@@ -106,4 +113,6 @@ timing-of-spec =
     number-requires-9
     add-number-9
     number-requires-10
+    ranks-of-requires
+    rank-gap-of-requires
     returns)

@@ -15,22 +15,22 @@ use Rattle.flight.proofs.pending_in_range.Statement.{statement}
 use Rattle.flight.proofs.pending_in_range.Tie as tie
 
 -- the test at a number
-abbrev test : ℕ → ℕ → ℕ → List ℕ → ℕ → Bool
-test classes cycle delay pending d = eqb (dueAt pending (cycle + d)) 0 || ltb d delay && soundWord classes (dueAt pending (cycle + d))
+abbrev test : ℕ → ℕ → ℕ → ℕ → List ℕ → ℕ → Bool
+test classes ranks cycle delay pending d = eqb (dueAt pending (cycle + d)) 0 || ltb d delay && soundWord classes ranks (dueAt pending (cycle + d))
 
 -- what the code asks there, of the place that the cycle modulo 32 leads to, is the test
-asked : (classes cycle delay : ℕ) (pending : List ℕ) (d : ℕ) {sound : Bool} → sound ≡ soundWord classes (dueAt pending (cycle % 32 + d)) → (eqb (dueAt pending (cycle % 32 + d)) 0 || ltb d delay && sound) ≡ test classes cycle delay pending d
+asked : (classes ranks cycle delay : ℕ) (pending : List ℕ) (d : ℕ) {sound : Bool} → sound ≡ soundWord classes ranks (dueAt pending (cycle % 32 + d)) → (eqb (dueAt pending (cycle % 32 + d)) 0 || ltb d delay && sound) ≡ test classes ranks cycle delay pending d
 unfolding dueAt
-asked classes cycle delay pending d e =
+asked classes ranks cycle delay pending d e =
     let same : (cycle % 32 + d) % 32 ≡ (cycle + d) % 32 = omega arith in
     ap (λ (b : Bool). eqb (dueAt pending (cycle % 32 + d)) 0 || ltb d delay && b) e
-    ∙ ap (λ (k : ℕ). eqb (getD pending k 0) 0 || ltb d delay && soundWord classes (getD pending k 0)) same
+    ∙ ap (λ (k : ℕ). eqb (getD pending k 0) 0 || ltb d delay && soundWord classes ranks (getD pending k 0)) same
 
 abbrev Inv-loop : tie.InvT-loop
-Inv-loop classes cycle delay pending after₀ after = Passed (test classes cycle delay pending) 32 after
+Inv-loop classes ranks cycle delay pending after₀ after = Passed (test classes ranks cycle delay pending) 32 after
 
 abbrev μ-loop : tie.MeasureT-loop
-μ-loop classes cycle delay pending after₀ after = 32 - after
+μ-loop classes ranks cycle delay pending after₀ after = 32 - after
 
 loop-holds : tie.Need-loop-holds Inv-loop μ-loop
 loop-holds c = passed-none _ 32
@@ -58,7 +58,7 @@ returns c =
     let a = loop .before .args in
     let after = loop .loop .after in
     stops _ 32 (loop .loop .after) (body .loop-test .taken)
-    (asked (a .classes) (a .cycle) (a .delay) (a .pending .now) after (c .before .sound-word .ensures))
+    (asked (a .classes) (a .ranks) (a .cycle) (a .delay) (a .pending .now) after (c .before .sound-word .ensures))
     (c .if1 .taken)
 
 add-after : tie.Need-add-after Inv-loop μ-loop
@@ -75,7 +75,7 @@ loop-again c =
     let a = loop .before .args in
     let after = loop .loop .after in
     goes-on _ 32 (loop .loop .after) (loop .loop .inv) (body .loop-test .taken)
-    (asked (a .classes) (a .cycle) (a .delay) (a .pending .now) after (c .before .sound-word .ensures))
+    (asked (a .classes) (a .ranks) (a .cycle) (a .delay) (a .pending .now) after (c .before .sound-word .ensures))
     (c .if1 .left)
 
 returns-2 : tie.Need-returns-2 Inv-loop μ-loop

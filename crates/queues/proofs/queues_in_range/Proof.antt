@@ -13,14 +13,14 @@ use Rattle.queues.proofs.queues_in_range.Statement.{statement}
 use Rattle.queues.proofs.queues_in_range.Tie as tie
 
 -- the test at a number
-abbrev test : ℕ → List ℕ → List ℕ → List ℕ → List ℕ → ℕ → Bool
-test classes slots heads lengths passed k = queueInRange classes (queuesOf slots heads lengths passed) k
+abbrev test : ℕ → ℕ → List ℕ → List ℕ → List ℕ → List ℕ → ℕ → Bool
+test classes ranks slots heads lengths passed k = queueInRange classes ranks (queuesOf slots heads lengths passed) k
 
 abbrev Inv-loop : tie.InvT-loop
-Inv-loop classes slots heads lengths passed class₀ class = Passed (test classes slots heads lengths passed) 16 class
+Inv-loop classes ranks slots heads lengths passed class₀ class = Passed (test classes ranks slots heads lengths passed) 16 class
 
 abbrev μ-loop : tie.MeasureT-loop
-μ-loop classes slots heads lengths passed class₀ class = 16 - class
+μ-loop classes ranks slots heads lengths passed class₀ class = 16 - class
 
 -- the places that the answers look back to: `in-loop-of-ring-in-range` is `In-loop`, seen from `After-ring-in-range`
 abbrev in-loop-of-ring-in-range : tie.After-ring-in-range Inv-loop μ-loop → tie.In-loop Inv-loop μ-loop
@@ -36,7 +36,7 @@ abbrev in-loop-of-else1 : tie.Else1 Inv-loop μ-loop → tie.In-loop Inv-loop μ
 in-loop-of-else1 c = in-loop-of-ring-in-range (c .before .before)
 
 -- the ring's test and the count's are the test at a number
-both : (c : tie.After-ring-in-range Inv-loop μ-loop) → (c .ring-in-range .result && leb (getD (start-of c .args .passed .now) (in-loop-of-ring-in-range c .before .loop .class) 0) 15) ≡ test (start-of c .args .classes) (start-of c .args .slots .now) (start-of c .args .heads .now) (start-of c .args .lengths .now) (start-of c .args .passed .now) (in-loop-of-ring-in-range c .before .loop .class)
+both : (c : tie.After-ring-in-range Inv-loop μ-loop) → (c .ring-in-range .result && leb (getD (start-of c .args .passed .now) (in-loop-of-ring-in-range c .before .loop .class) 0) 15) ≡ test (start-of c .args .classes) (start-of c .args .ranks) (start-of c .args .slots .now) (start-of c .args .heads .now) (start-of c .args .lengths .now) (start-of c .args .passed .now) (in-loop-of-ring-in-range c .before .loop .class)
 unfolding queueInRange headOf lengthOf passedOf
 both c = ap (λ (b : Bool). b && leb (getD (start-of c .args .passed .now) (in-loop-of-ring-in-range c .before .loop .class) 0) 15) (c .ring-in-range .ensures)
 

@@ -15,14 +15,14 @@ use Rattle.queues.proofs.words_in_range.Statement.{statement}
 use Rattle.queues.proofs.words_in_range.Tie as tie
 
 -- the test at a number
-abbrev test : ℕ → List ℕ → ℕ → ℕ → ℕ → ℕ → Bool
-test classes slots class head len k = leb len k || rightWord classes class (getD slots (place class head k) 0)
+abbrev test : ℕ → ℕ → List ℕ → ℕ → ℕ → ℕ → ℕ → Bool
+test classes ranks slots class head len k = leb len k || rightWord classes ranks class (getD slots (place class head k) 0)
 
 abbrev Inv-loop : tie.InvT-loop
-Inv-loop classes slots class head length k₀ k = Passed (test classes slots class head length) 8 k
+Inv-loop classes ranks slots class head length k₀ k = Passed (test classes ranks slots class head length) 8 k
 
 abbrev μ-loop : tie.MeasureT-loop
-μ-loop classes slots class head length k₀ k = 8 - k
+μ-loop classes ranks slots class head length k₀ k = 8 - k
 
 -- the places that the answers look back to: `start-of-place` is the start, seen from `After-place`
 abbrev start-of-place : tie.After-place Inv-loop μ-loop → tie.Start Inv-loop μ-loop
@@ -65,7 +65,7 @@ returns c =
     let a = loop .before .args in
     stops _ 8 (loop .loop .k) (body .loop-test .taken)
     (ap (λ (b : Bool). leb (a .length) (loop .loop .k) || b)
-    (c .before .right-word .ensures ∙ ap (λ (j : ℕ). rightWord (a .classes) (a .class) (getD (a .slots .now) j 0)) (at (c .before .before .before))))
+    (c .before .right-word .ensures ∙ ap (λ (j : ℕ). rightWord (a .classes) (a .ranks) (a .class) (getD (a .slots .now) j 0)) (at (c .before .before .before))))
     (c .if1 .taken)
 
 add-k : tie.Need-add-k Inv-loop μ-loop
@@ -81,7 +81,7 @@ loop-again c =
     let a = loop .before .args in
     goes-on _ 8 (loop .loop .k) (loop .loop .inv) (body .loop-test .taken)
     (ap (λ (b : Bool). leb (a .length) (loop .loop .k) || b)
-    (c .before .right-word .ensures ∙ ap (λ (j : ℕ). rightWord (a .classes) (a .class) (getD (a .slots .now) j 0)) (at (c .before .before .before))))
+    (c .before .right-word .ensures ∙ ap (λ (j : ℕ). rightWord (a .classes) (a .ranks) (a .class) (getD (a .slots .now) j 0)) (at (c .before .before .before))))
     (c .if1 .left)
 
 returns-2 : tie.Need-returns-2 Inv-loop μ-loop

@@ -39,7 +39,7 @@ abbrev before-tick : tie.After-tick-in-place → tie.Else1
 before-tick c = c .before .before .before .before .before .before .before .before .before .before
 
 abbrev at-offer : tie.After-offer → tie.After-call-of
-at-offer c = c .before .before .before .before .before .before .before
+at-offer c = c .before .before .before .before .before .before .before .before
 
 -- ---- the state before, and the definition's answer
 
@@ -138,12 +138,12 @@ returns-3 c =
     let offer = cleared .before in
     let at = at-offer offer in
     let s = start-told at in
-    let call = offer .before .before .before .before .before in
+    let call = offer .before .before .before .before .before .before in
     let did = offer .offer .ensures in
     let status = did .0 (small-classes (s .args .p) (given s) (ranged (s .args .p) (given s) (s .pre .ranges))) in
     let answers = c .answered2 .ensures ∙ ap (λ (m : Moment). answeredWith m (offer .offer .result)) (cleared .nothing-known .ensures) in
-    let queues = did .1 (s .args .passed .now) ∙ queued-by (s .args .m .classes) (given s .queues) _ _ _ status (offer-word (s .args .word) _ (told at _ (call .call .given .1))) in (
-      ap (left-by (queued (given s) (queuesOf (offer .offer .last .1 .0) (s .args .heads .now) (offer .offer .last .1 .1 .1 .0) (s .args .passed .now)))) answers
+    let queues = did .1 (s .args .passed .now) ∙ queued-by (s .args .m .classes) (s .args .p .timing .ranks) (given s .queues) _ _ _ status (offer-word (s .args .word) _ (told at _ (call .call .given .1))) in (
+      ap (left-by (queued (given s) (queuesOf (offer .offer .last .1 .1 .0) (s .args .heads .now) (offer .offer .last .1 .1 .1 .1 .0) (s .args .passed .now)))) answers
           ∙ ap₂ (λ (k : ℕ) (q : Queues). record { state = queued (given s) q; status = k; command = 0; response = 0; turn = 0 }) status queues
           ∙ sym (called-offer (s .args .p) (given s) (s .args .word) _ (told at _ (call .call .given .1)) ∙ ap offered (offer-is (s .args .p) (given s) (s .pre .ranges) _)),
       (stays-by s (c .answered2 .result) 0 answers, nothing-known (busAt (s .args .p) (right s .state) (right s .state .turns)) (c .answered2 .result .moment .until) (ap (λ (x : Called). x .moment .until) answers)),

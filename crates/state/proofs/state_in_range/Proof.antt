@@ -43,14 +43,14 @@ well-shaped c =
     let pointers : length (s .turns .pointers) ≡ 16 = search (needs, c .good .0 .1 .1 .1 .1 .1 .0) in
     let columns : length (s .flight .columns) ≡ 32 = search (needs, c .good .0 .1 .1 .1 .1 .1 .1) in
     let responses : length (s .flight .responses) ≡ 32 = search (needs, c .good .0 .1 .1 .1 .1 .1 .1) in
-    let banks : length (s .flight .banks) ≡ 8 = search (needs, c .good .0 .1 .1 .1 .1 .1 .1) in
+    let banks : length (s .flight .banks) ≡ 32 = search (needs, c .good .0 .1 .1 .1 .1 .1 .1) in
     and-both
     (and-both
     (and-both
     (and-both (and-both (and-both (and-both (and-both (eq-eqb _ 128 slots) (eq-eqb _ 16 heads)) (eq-eqb _ 16 lengths)) (eq-eqb _ 16 passed)) (eq-eqb _ 16 left)) (eq-eqb _ 16 pointers))
     (eq-eqb _ 32 columns))
     (eq-eqb _ 32 responses))
-    (eq-eqb _ 8 banks)
+    (eq-eqb _ 32 banks)
 
 counts-in-range-requires : tie.Need-counts-in-range-requires
 counts-in-range-requires c κs = search needs

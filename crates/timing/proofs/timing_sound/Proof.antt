@@ -23,6 +23,9 @@ is-within-requires-3 c κs = search needs
 column-within-requires : tie.Need-column-within-requires
 column-within-requires c κs = search needs
 
+rank-within-requires : tie.Need-rank-within-requires
+rank-within-requires c κs = search needs
+
 returns : tie.Need-returns
 unfolding timingSound
 returns c = cc
@@ -37,4 +40,5 @@ timing-sound-spec =
     bank-within-requires
     is-within-requires-3
     column-within-requires
+    rank-within-requires
     returns)

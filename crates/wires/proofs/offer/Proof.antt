@@ -8,7 +8,7 @@ use borrow.Author.Needs.{needs}
 use borrow.Author.Tests.{lt-ltb, le-ltb}
 use Rattle.basics.proofs.Truth.{not-true, not-not}
 use Rattle.order.specs.Laws.{SmallClasses}
-use Rattle.requests.specs.Word.{classFits, bankAndKindFit}
+use Rattle.requests.specs.Word.{classFits, bankKindRankFit}
 use Rattle.rules.specs.Queue.{offerStatus}
 use Rattle.wires.proofs.offer.Statement.{statement}
 use Rattle.wires.proofs.offer.Tie as tie
@@ -32,8 +32,8 @@ unfolding classFits
 small c classes = classes (start-of-else1 c .args .r .class) (fits c)
 
 -- 10 does not refuse it
-right : (c : tie.Else3) → bankAndKindFit (start-of-else1 (else1-of-else3 c) .args .r) ≡ true
-right c = sym (c .before .bank-and-kind-fit .ensures) ∙ not-not _ (c .if3 .left)
+right : (c : tie.Else3) → bankKindRankFit (start-of-else1 (else1-of-else3 c) .args .ranks) (start-of-else1 (else1-of-else3 c) .args .r) ≡ true
+right c = sym (c .before .bank-kind-rank-fit .ensures) ∙ not-not _ (c .if3 .left)
 
 class-fits-requires : tie.Need-class-fits-requires
 class-fits-requires c κs = search needs
@@ -49,12 +49,12 @@ cast-class c = search needs
 returns-2 : tie.Need-returns-2
 returns-2 c = (λ classes. absurd (omega (arith, small (c .before .before) classes, c .if2 .taken)), λ passed. refl)
 
-bank-and-kind-fit-requires : tie.Need-bank-and-kind-fit-requires
-bank-and-kind-fit-requires c κs = search needs
+bank-kind-rank-fit-requires : tie.Need-bank-kind-rank-fit-requires
+bank-kind-rank-fit-requires c κs = search needs
 
 returns-3 : tie.Need-returns-3
 unfolding offerStatus
-returns-3 c = (λ classes. rw (fits (else1-of-else2 (c .before .before)), sym (c .before .bank-and-kind-fit .ensures) ∙ not-true _ (c .if3 .taken)), λ passed. refl)
+returns-3 c = (λ classes. rw (fits (else1-of-else2 (c .before .before)), sym (c .before .bank-kind-rank-fit .ensures) ∙ not-true _ (c .if3 .taken)), λ passed. refl)
 
 mul-if4 : tie.Need-mul-if4
 mul-if4 c = search needs
@@ -86,7 +86,7 @@ offer-spec =
     returns
     cast-class
     returns-2
-    bank-and-kind-fit-requires
+    bank-kind-rank-fit-requires
     returns-3
     mul-if4
     element-copy-out-if4

@@ -3,15 +3,15 @@
 //! A number that is kept in too few bits shows only where something goes by it
 //! and does not repeat with it. So no turn length and no epoch here has a factor
 //! in common with a power of two, and some banks are left alone for a power of
-//! two of cycles and then asked for.
+//! two of cycles and then asked for, at times on another rank.
 
 use vigambul_compare::fast::Controller;
-use vigambul_model::generate::{antichain_rows, sound_offer, PolicyFields};
+use vigambul_model::generate::{antichain_rows, on_rank, sound_offer, PolicyFields};
 use vigambul_model::masks::below_mask;
 use vigambul_model::policy::MOST_CLASSES;
 use vigambul_model::random::Random;
-use vigambul_model::state::{BANKS, LAST_CYCLE};
-use vigambul_model::trace::{COLUMN_BIT, OFFER_BIT};
+use vigambul_model::state::{ranks, BANKS, LAST_CYCLE, RANKS};
+use vigambul_model::trace::Word;
 
 use super::{accepted, diamond};
 
@@ -21,7 +21,7 @@ pub fn policies() -> [(&'static str, Vec<u8>); 4] {
         ("a diamond, turns of 17, E = 7", diamond()),
         ("a chain of 16, turns of 5, E = 63", chain_of_sixteen()),
         ("15 over one, turns of 255, E = 11", fifteen_over_one()),
-        ("a tree of 9, turns of 43, E = 13", tree_of_nine()),
+        ("a tree of 9, turns of 43, E = 13, ranks", tree_of_nine()),
     ]
 }
 
@@ -46,7 +46,7 @@ fn fifteen_over_one() -> Vec<u8> {
 
 /// 4 below 0, 3, 7 and 8; 0 below 1 and 2, and 3 below 5 and 6. Most of a turn is
 /// its dead time; 65,536 cycles after an activate near a turn's start there is
-/// another turn's start near.
+/// another turn's start near. It has four ranks.
 fn tree_of_nine() -> Vec<u8> {
     let rows = [
         0b0_0000_0111,
@@ -60,7 +60,8 @@ fn tree_of_nine() -> Vec<u8> {
         0b1_0000_0000,
     ];
     let timing = [43, 31, 1, 9, 17, 31, 20, 31, 7, 19];
-    PolicyFields::new(&rows, 13, &[1, 2, 1, 1, 0, 2, 1, 2, 1], timing).encode()
+    let fields = PolicyFields::new(&rows, 13, &[1, 2, 1, 1, 0, 2, 1, 2, 1], timing);
+    fields.with_rank_gap(29).encode()
 }
 
 /// The numbers of a list that ends with the last tick that is not refused, made
@@ -70,10 +71,11 @@ pub fn numbers_to_the_last_tick(seed: u64, file: &[u8]) -> Vec<u32> {
     let mut writer = Writer {
         random: Random::new(seed),
         classes: policy.class_count() as u8,
+        ranks: ranks(&policy),
         controller: Controller::new(&policy),
         cycle: 0,
         last_activate: None,
-        last_of_bank: [None; BANKS],
+        last_of_bank: [None; RANKS * BANKS],
         after_65_536_cycles: 0,
         numbers: Vec::with_capacity(LAST_CYCLE as usize + LAST_CYCLE as usize / 8),
     };
@@ -94,13 +96,14 @@ pub fn numbers_to_the_last_tick(seed: u64, file: &[u8]) -> Vec<u32> {
 struct Writer {
     random: Random,
     classes: u8,
+    ranks: usize,
     controller: Controller,
     /// The number of the next tick.
     cycle: u32,
-    /// The cycle and the bank of the last activate.
-    last_activate: Option<(u32, usize)>,
+    /// The cycle, the rank and the bank of the last activate.
+    last_activate: Option<(u32, usize, u8)>,
     /// The cycle of each bank's last activate.
-    last_of_bank: [Option<u32>; BANKS],
+    last_of_bank: [Option<u32>; RANKS * BANKS],
     /// Activates of a bank whose last one was 65,536 cycles before: in 16 bits
     /// that is no time at all.
     after_65_536_cycles: usize,
@@ -119,12 +122,13 @@ impl Writer {
         }
         self.numbers.push(0);
         let [_, command, _, _] = self.controller.call(0);
-        if command & OFFER_BIT != 0 && command & COLUMN_BIT == 0 {
-            let bank = (command >> 16) as usize % BANKS;
-            let age = self.last_of_bank[bank].map(|last| self.cycle - last);
+        // A column command is no offer's word, and none is a tick's.
+        if let Word::Offer(request) = Word::of(command) {
+            let last = &mut self.last_of_bank[request.bank_place()];
+            let age = last.map(|last| self.cycle - last);
             self.after_65_536_cycles += usize::from(age == Some(65_536));
-            self.last_of_bank[bank] = Some(self.cycle);
-            self.last_activate = Some((self.cycle, bank));
+            *last = Some(self.cycle);
+            self.last_activate = Some((self.cycle, usize::from(request.rank), request.bank));
         }
         self.cycle += 1;
     }
@@ -140,7 +144,16 @@ impl Writer {
     fn offer_of_any(&mut self) {
         let class = self.random.below(usize::from(self.classes)) as u8;
         let word = sound_offer(&mut self.random, class, BANKS);
-        self.offer(word);
+        let rank = self.any_rank();
+        self.offer(on_rank(word, rank));
+    }
+
+    /// With one rank nothing is drawn.
+    fn any_rank(&mut self) -> usize {
+        match self.ranks {
+            1 => 0,
+            ranks => self.random.below(ranks),
+        }
     }
 
     /// Some thousands of ticks with offers of all classes and banks.
@@ -154,7 +167,8 @@ impl Writer {
     }
 
     /// Nobody asks until a power of two of cycles after the last activate; then
-    /// all ask for its bank, so that whoever owns that turn does.
+    /// all ask for its bank, so that whoever owns that turn does. With ranks, at times
+    /// they ask for the bank of that number on any of them.
     fn quiet(&mut self) {
         let power = match self.random.below(40) {
             0 => 20,
@@ -170,9 +184,14 @@ impl Writer {
             self.tick();
             last = self.last_activate.unwrap_or(last);
         }
+        let (_, mut rank, bank) = last;
+        if self.ranks > 1 && self.random.below(2) == 0 {
+            rank = self.any_rank();
+        }
         for class in 0..self.classes {
             let of_any_bank = sound_offer(&mut self.random, class, BANKS);
-            self.offer(of_any_bank & !(7 << 16) | (last.1 as u32) << 16);
+            let word = of_any_bank & !(7 << 16) | u32::from(bank) << 16;
+            self.offer(on_rank(word, rank));
         }
         self.tick();
     }

@@ -1,4 +1,4 @@
--- `cases_calls::same::all_zeros` ends: the place rises to 285.
+-- `cases_calls::same::all_zeros` ends: the place rises to 309.
 -- Assumes nothing.
 use Prim.Native.Nat.{_-_, _≤_}
 use borrow.Author.Needs.{needs}
@@ -7,10 +7,10 @@ use Rattle.cases_calls.proofs.same.all_zeros.Tie as tie
 use Rattle.cases_calls.proofs.same.of_state.Reads as of-state-reads
 
 abbrev Inv-loop : tie.InvT-loop
-Inv-loop s at₀ at = at ≤ 285
+Inv-loop s at₀ at = at ≤ 309
 
 abbrev μ-loop : tie.MeasureT-loop
-μ-loop s at₀ at = 285 - at
+μ-loop s at₀ at = 309 - at
 
 loop-holds : tie.Need-loop-holds Inv-loop μ-loop
 loop-holds c = search needs

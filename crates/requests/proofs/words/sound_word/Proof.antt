@@ -14,14 +14,14 @@ is-offer-requires c κs = search needs
 class-fits-requires : tie.Need-class-fits-requires
 class-fits-requires c κs = search needs
 
-bank-and-kind-fit-requires : tie.Need-bank-and-kind-fit-requires
-bank-and-kind-fit-requires c κs = search needs
+bank-kind-rank-fit-requires : tie.Need-bank-kind-rank-fit-requires
+bank-kind-rank-fit-requires c κs = search needs
 
 returns : tie.Need-returns
 unfolding soundWord
 returns c =
     let request-of = c .before .before .before in
-    rw (c .bank-and-kind-fit .ensures, c .before .class-fits .ensures, c .before .before .is-offer .ensures, request-of .request-of .ensures)
+    rw (c .bank-kind-rank-fit .ensures, c .before .class-fits .ensures, c .before .before .is-offer .ensures, request-of .request-of .ensures)
 
 pub sound-word-spec : {M : Type 1} → statement M
 sound-word-spec =
@@ -30,5 +30,5 @@ sound-word-spec =
     request-of-requires
     is-offer-requires
     class-fits-requires
-    bank-and-kind-fit-requires
+    bank-kind-rank-fit-requires
     returns)

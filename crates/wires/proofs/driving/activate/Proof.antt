@@ -3,9 +3,10 @@
 use mathlib.Core.Path.{_≡_}
 use Prim.Native.Nat.{ℕ, _+_, _%_}
 use native.Mathlib.Omega.{arith}
-use Rattle.requests.specs.Word.{kindOf, bankOf}
+use Rattle.requests.specs.Word.{rankOf, kindOf, bankOf, bankPlace}
 use Rattle.rules.specs.Wire.{activated}
 use borrow.Author.Needs.{needs}
+use Rattle.requests.proofs.Word.{rank-small}
 use Rattle.wires.proofs.driving.activate.Statement.{statement}
 use Rattle.wires.proofs.driving.activate.Tie as tie
 
@@ -25,11 +26,11 @@ wrapping-add-u32-requires-2 c κs = search needs
 cast-response : tie.Need-cast-response
 cast-response c = search needs
 
-bank-of-requires : tie.Need-bank-of-requires
-bank-of-requires c κs = search needs
+bank-place-requires : tie.Need-bank-place-requires
+bank-place-requires c κs = search needs
 
-cast-bank : tie.Need-cast-bank
-cast-bank c = search needs
+rank-of-requires : tie.Need-rank-of-requires
+rank-of-requires c κs = search needs
 
 kind-of-requires : tie.Need-kind-of-requires
 kind-of-requires c κs = search needs
@@ -56,16 +57,17 @@ element-write-banks : tie.Need-element-write-banks
 element-write-banks c = search needs
 
 returns : tie.Need-returns
-unfolding activated
+unfolding activated bankPlace
 returns c (ticks-left, bank, kind) =
-    let start = c .before .before .before .before .before in
+    let start = c .before .before .before .before .before .before in
     let a = start .args in
-    let column = wraps-to (a .cycle + a .timing .column) _ (c .before .before .before .before .wrapping-add-u32 .ensures) in
-    let response = wraps-to (a .cycle + a .timing .response) _ (c .before .before .before .wrapping-add-u322 .ensures) in
+    let column = wraps-to (a .cycle + a .timing .column) _ (c .before .before .before .before .before .wrapping-add-u32 .ensures) in
+    let response = wraps-to (a .cycle + a .timing .response) _ (c .before .before .before .before .wrapping-add-u322 .ensures) in
     let same-cycle : a .cycle % 16777216 ≡ a .cycle = omega (arith, ticks-left) in
     let same-kind : kindOf (a .word) % 2 ≡ kindOf (a .word) = omega (arith, kind) in
     let same-bank : bankOf (a .word) % 8 ≡ bankOf (a .word) = omega (arith, bank) in
-    rw (column, response, c .activate-at .ensures, c .before .kind-of .ensures, c .before .before .bank-of .ensures, same-cycle, same-kind, same-bank)
+    let same-rank : rankOf (a .word) % 4 ≡ rankOf (a .word) = let small = rank-small (a .word) in omega (arith, small) in
+    rw (column, response, c .activate-at .ensures, c .before .kind-of .ensures, c .before .before .rank-of .ensures, c .before .before .before .bank-place .ensures .0, same-cycle, same-kind, same-bank, same-rank)
 
 pub activate-spec : {M : Type 1} → statement M
 activate-spec =
@@ -75,8 +77,8 @@ activate-spec =
     cast-column
     wrapping-add-u32-requires-2
     cast-response
-    bank-of-requires
-    cast-bank
+    bank-place-requires
+    rank-of-requires
     kind-of-requires
     activate-at-requires
     mul-columns

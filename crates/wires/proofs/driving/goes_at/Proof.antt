@@ -6,7 +6,7 @@ use mathlib.Core.Logic.{⊎-elim}
 use mathlib.Core.Bool.{Bool, true, false, _&&_, _||_}
 use mathlib.Core.List.{List}
 use Prim.Native.Nat.{ℕ, _+_, _-_, _≤_, _<_, min}
-use native.Mathlib.Nat.{lt-irrefl, not-suc-le-zero}
+use native.Mathlib.Nat.{lt-irrefl, lt-of-lt-of-le, not-suc-le-zero}
 use native.Mathlib.Numerals.{add-one}
 use native.Mathlib.Omega.{arith}
 use borrow.Author.Needs.{needs}
@@ -37,7 +37,7 @@ module _ (timing : Timing) (last : ℕ) (slots banks : List ℕ) (class head len
   write = opensAt last (kindGap timing last 1)
 
   abbrev opens : ℕ → ℕ
-  opens k = opensBy timing read write banks (getD slots (place class head k) 0)
+  opens k = opensBy timing last read write banks (getD slots (place class head k) 0)
 
   abbrev may : ℕ → ℕ → Bool
   may t = mayGoBy timing t last slots banks class head passed
@@ -155,21 +155,29 @@ returns-2 c =
 waits : (c : tie.After-opens-of Inv-loop μ-loop) → at-of c < start-of c .args .length
 waits c = ltb-true (at-of c) (start-of c .args .length) (and-left (ltb (at-of c) (start-of c .args .length)) (ltb (at-of c) 8) (test-of c .loop-test .taken))
 
--- its tick is the one worked out
-opens-is : (c : tie.After-opens-of Inv-loop μ-loop) → Given (start-of c) → c .opens-of .result ≡ opens-at (start-of c) (at-of c)
-opens-is c g =
-    let s = start-of c in
-    let a = s .args in
+-- its tick, of the ticks worked out, is that of the definition
+opens-is : (c : tie.After-opens-of Inv-loop μ-loop) → opensBy (start-of c .args .timing) (start-of c .args .last) (known (loop-of c) .before .before .kind-opens .result) (known (loop-of c) .before .kind-opens2 .result) (start-of c .args .banks .now) (c .before .waiting-at .result) ≡ opens-at (start-of c) (at-of c)
+opens-is c =
+    let a = start-of c .args in
     let at = known (loop-of c) in
     let word = c .before .waiting-at .ensures in
-    let bank = subst (λ (w : ℕ). bankOf w < 8) (sym word) (g .bank (at-of c) (waits c)) in
-    c .opens-of .ensures bank
-    ∙ ap (opensBy (a .timing) (at .before .before .kind-opens .result) (at .before .kind-opens2 .result) (a .banks .now)) word
-    ∙ ap₂ (λ (x y : ℕ). opensBy (a .timing) x y (a .banks .now) (getD (a .slots .now) (place (a .class) (a .head) (at-of c)) 0)) (at .before .before .kind-opens .ensures) (at .before .kind-opens2 .ensures)
+    ap (opensBy (a .timing) (a .last) (at .before .before .kind-opens .result) (at .before .kind-opens2 .result) (a .banks .now)) word
+    ∙ ap₂ (λ (x y : ℕ). opensBy (a .timing) (a .last) x y (a .banks .now) (getD (a .slots .now) (place (a .class) (a .head) (at-of c)) 0)) (at .before .before .kind-opens .ensures) (at .before .kind-opens2 .ensures)
+
+-- it has a bank
+its-bank : (c : tie.After-opens-of Inv-loop μ-loop) → Given (start-of c) → bankOf (c .before .waiting-at .result) < 8
+its-bank c g = subst (λ (w : ℕ). bankOf w < 8) (sym (c .before .waiting-at .ensures)) (g .bank (at-of c) (waits c))
+
+-- what is handed back is no later than its tick, and where it has come so has that
+no-later : (c : tie.After-opens-of Inv-loop μ-loop) → Given (start-of c) → c .opens-of .result ≤ opens-at (start-of c) (at-of c)
+no-later c g = subst (λ (n : ℕ). c .opens-of .result ≤ n) (opens-is c) (c .opens-of .ensures .0 (its-bank c g))
+
+come : (c : tie.After-opens-of Inv-loop μ-loop) → Given (start-of c) → c .opens-of .result ≤ start-of c .args .cycle + 1 → opens-at (start-of c) (at-of c) ≤ start-of c .args .cycle + 1
+come c g now = subst (λ (n : ℕ). n ≤ start-of c .args .cycle + 1) (opens-is c) (c .opens-of .ensures .1 (its-bank c g) now)
 
 -- where that has not come, it may not go
 not-it : (c : tie.After-opens-of Inv-loop μ-loop) → Given (start-of c) → (t : ℕ) → t + 1 < c .opens-of .result → may-go (start-of c) t (at-of c) ≡ false
-not-it c g t early = not-yet (start-of c) g t (at-of c) (waits c) (subst (λ (n : ℕ). t + 1 < n) (opens-is c g) early)
+not-it c g t early = not-yet (start-of c) g t (at-of c) (waits c) (lt-of-lt-of-le early (no-later c g))
 
 loop-holds : tie.Need-loop-holds Inv-loop μ-loop
 loop-holds c = (λ given. (missed-none _ _, λ i l. absurd (not-suc-le-zero l)), λ past. absurd (not-suc-le-zero past))
@@ -193,7 +201,7 @@ returns-3 c =
       λ g.
           found-at _ (a .length) k (inv .0 g .0) (waits at)
           (may-is (a .timing) (a .last) (a .slots .now) (a .banks .now) (a .class) (a .head) (a .length) (a .passed) g (a .cycle) k (waits at)
-          ∙ and-both passes (le-leb (opens-at s k) (a .cycle + 1) (subst (λ (n : ℕ). n ≤ a .cycle + 1) (opens-is at g) (c .if3 .taken)))),
+          ∙ and-both passes (le-leb (opens-at s k) (a .cycle + 1) (come at g (c .if3 .taken)))),
       (λ g t early. absurd (not-suc-le-zero early), λ waits past. inv .1 past),
     )
 
@@ -241,7 +249,7 @@ loop-again c =
         missed-more _ (s .args .length) k (inv .0 g .0) (waits at) (not-it at g (s .args .cycle) (omega (arith, shut .if3 .left))),
         λ i l.
             ⊎-elim
-            (λ here. subst (λ (n : ℕ). c .before .earlier2 .result ≤ opens-at s n) (sym here) (omega (arith, least, opens-is at g)))
+            (λ here. subst (λ (n : ℕ). c .before .earlier2 .result ≤ opens-at s n) (sym here) (omega (arith, least, no-later at g)))
             (λ before. omega (arith, least, inv .0 g .1 i before))
             (at-or-below (subst (λ (n : ℕ). i < n) (add-one k) l)),
       ),

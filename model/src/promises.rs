@@ -112,8 +112,8 @@ const COUNTED: [&str; 52] = [
     "oldest requests passed",
     "oldest requests passed by one of the other kind",
     "oldest requests passed in two turns",
-    "activates of the older of two of one bank and kind",
-    "activates of the older of two of one bank and kind, neither the oldest",
+    "activates of the older of two of one rank, bank and kind",
+    "activates of the older of two of one rank, bank and kind, neither the oldest",
     "oldest requests passed 15 times",
     "oldest requests passed 15 times that go",
     "ticks at which being passed 15 times holds a younger one back",
@@ -650,11 +650,11 @@ impl Check<'_> {
             search.met_if(later, "oldest requests passed in two turns");
             search.met_if(
                 alike_waits,
-                "activates of the older of two of one bank and kind",
+                "activates of the older of two of one rank, bank and kind",
             );
             search.met_if(
                 alike_waits && taken > 0,
-                "activates of the older of two of one bank and kind, neither the oldest",
+                "activates of the older of two of one rank, bank and kind, neither the oldest",
             );
             search.met_if(passes == most, "oldest requests passed 15 times");
             search.met_if(

@@ -1,5 +1,5 @@
 -- W-203's promises. What one call does to the requests of a class: it leaves them, but for an offer that is taken at their end, or one of them goes. The one that goes is the oldest whose gaps are met, so none older
--- of its bank and kind waits, and each that passes the oldest is counted. Then by going through the list.
+-- of its rank, bank and kind waits, and each that passes the oldest is counted. Then by going through the list.
 -- Assumes nothing.
 use mathlib.Core.Path.{_≡_, refl, sym, ap, ap₂, _∙_, subst}
 use mathlib.Core.Logic.{_⊎_, _≢_, inl, inr, ⊎-elim}
@@ -96,7 +96,7 @@ module _ (p : Policy) (c : ℕ) (s : State) (w : ℕ) where
     requests : waiting (a .state .queues) c ≡ waiting (s .queues) c ++ those (ofClass c) (onlyIf (isOffer w && eqb (a .status) 0) w)
     count : passedOf (a .state .queues) c ≡ passedOf (s .queues) c
 
-  -- one of its requests goes: no older one has its bank and kind, and where it is not the oldest fewer than 15 have passed that
+  -- one of its requests goes: no older one has its rank, bank and kind, and where it is not the oldest fewer than 15 have passed that
   record Goes (a : Answer) : Type 0 where
     place : ℕ
     waits : place < lengthOf (s .queues) c

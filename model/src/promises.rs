@@ -46,7 +46,7 @@ pub enum Promise {
     FirstThatCanGo,
     /// Of two waiting requests of one class with the same rank, bank and kind, the older is activated
     /// first. It follows from W-203: their gaps are the same.
-    OrderOfBankAndKind,
+    OrderOfRankBankAndKind,
     /// While a request is its class's oldest, at most 15 others of that class are activated before it. It
     /// follows from W-203 too.
     AtMost15Pass,
@@ -625,7 +625,7 @@ impl Check<'_> {
             let of = |request: &Request| (request.rank, request.bank, request.kind);
             let alike = |other: &Request| of(other) == of(&request);
             let in_order = !older.any(alike);
-            self.hold(Promise::OrderOfBankAndKind, in_order, || {
+            self.hold(Promise::OrderOfRankBankAndKind, in_order, || {
                 format!("number {place} of the list: {tick:?}")
             });
             let passes = if taken == 0 { 0 } else { tick.passes + 1 };

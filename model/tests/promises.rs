@@ -56,7 +56,7 @@ fn the_model_as_it_is_keeps_every_promise() {
         Promise::Activate,
         Promise::TurnsLeft,
         Promise::FirstThatCanGo,
-        Promise::OrderOfBankAndKind,
+        Promise::OrderOfRankBankAndKind,
         Promise::AtMost15Pass,
         Promise::RankGap,
         Promise::BankGap,
@@ -153,14 +153,14 @@ fn finds_the_oldest_alone_by_the_rule() {
 fn finds_the_youngest_that_can_go() {
     let broken = broken_by(Planted::YoungestFirst);
     assert!(broken.contains(&Promise::FirstThatCanGo), "{broken:?}");
-    assert!(broken.contains(&Promise::OrderOfBankAndKind), "{broken:?}");
+    assert!(broken.contains(&Promise::OrderOfRankBankAndKind), "{broken:?}");
 }
 
 #[test]
 fn finds_a_queue_that_does_not_close_up_in_its_order() {
     let broken = broken_by(Planted::LastMovesUp);
     assert!(broken.contains(&Promise::FirstThatCanGo), "{broken:?}");
-    assert!(broken.contains(&Promise::OrderOfBankAndKind), "{broken:?}");
+    assert!(broken.contains(&Promise::OrderOfRankBankAndKind), "{broken:?}");
 }
 
 #[test]

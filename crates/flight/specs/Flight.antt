@@ -1,4 +1,4 @@
--- What is in flight: how it is stored, and what 13 refuses of it. What is pending stands at its due cycle modulo 32. A last activate is one number.
+-- What is in flight: how it is stored, and what 13 refuses of it. What is pending stands at its due cycle modulo 32, by its word, so that it holds the rank (W-206: "waiting and in-flight requests hold it"). A last activate is one number.
 use mathlib.Core.Bool.{Bool, _&&_, _||_}
 use mathlib.Core.List.{List}
 use Prim.Native.Nat.{ℕ, _+_, _*_, _/_, _%_}
@@ -22,23 +22,23 @@ dueAt pending t = getD pending (t % pendingPlaces) 0
 unfoldable pub sentAt : List ℕ → ℕ → List ℕ
 sentAt pending t = set pending (t % pendingPlaces) 0
 
--- how a last activate is stored: 16 times one more than its cycle, plus four times its rank (W-206), plus its kind; 0 is none
+-- how a last activate is stored: eight times one more than its cycle, plus twice its rank (W-206), plus its kind; 0 is none
 unfoldable pub activateAt : ℕ → ℕ → ℕ → ℕ
-activateAt t rank kind = 16 * (t + 1) + 4 * rank + kind
+activateAt t rank kind = 8 * (t + 1) + 2 * rank + kind
 
 -- one more than the cycle of a stored last activate, its rank and its kind
 unfoldable pub activateNext : ℕ → ℕ
-activateNext last = last / 16
+activateNext last = last / 8
 
 unfoldable pub activateRank : ℕ → ℕ
-activateRank last = last / 4 % 4
+activateRank last = last / 2 % 4
 
 unfoldable pub activateKind : ℕ → ℕ
 activateKind last = last % 2
 
 -- ---- in range: "Out of range in 13 means", clause by clause
 
--- "a last activate not before the cycle". A stored 1 to 15 is no activate and not none: refused.
+-- "a last activate not before the cycle". A stored 1 to 7 is no activate and not none: refused. Every other number is an activate of kind 0 or 1 on rank 0 to 3.
 unfoldable pub activateInRange : ℕ → ℕ → Bool
 activateInRange t last = eqb last 0 || leb 1 (activateNext last) && leb (activateNext last) t
 

@@ -22,32 +22,32 @@ pub struct Flight {
     // The words of the pending column commands and responses, each at its due cycle modulo 32; 0 for none.
     pub columns: Pending,
     pub responses: Pending,
-    // The last activate of each bank, at eight times its rank plus its number, and of all: 16 times one more than its cycle, plus four times its rank, plus its kind; 0 where
+    // The last activate of each bank, at eight times its rank plus its number, and of all: eight times one more than its cycle, plus twice its rank, plus its kind; 0 where
     // there was none.
     pub banks: Banks,
     pub last: u32,
 }
 
-// How a last activate is stored: 16 times one more than its cycle, plus four times its rank, plus its kind. A cycle is below 16,777,216, a rank is 0 to 3 and a kind is 0 or 1; of
+// How a last activate is stored: eight times one more than its cycle, plus twice its rank, plus its kind. A cycle is below 16,777,216, a rank is 0 to 3 and a kind is 0 or 1; of
 // other numbers, of which document 01 says nothing, the low 24 bits, the low two and the low bit count.
 pub fn activate_at(cycle: u32, rank: u32, kind: u32) -> u32
     ensures { λ r. ⌜ r ≡ activateAt (cycle % 16777216) (rank % 4) (kind % 2) ⌝ }
 {
-    16 * (cycle % 16777216 + 1) + 4 * (rank % 4) + kind % 2
+    8 * (cycle % 16777216 + 1) + 2 * (rank % 4) + kind % 2
 }
 
 // One more than the cycle of a stored last activate.
 pub fn activate_next(last: u32) -> u32
     ensures { λ r. ⌜ r ≡ activateNext last ⌝ }
 {
-    last / 16
+    last / 8
 }
 
 // The rank of a stored last activate.
 pub fn activate_rank(last: u32) -> u32
     ensures { λ r. ⌜ r ≡ activateRank last ⌝ }
 {
-    last / 4 % 4
+    last / 2 % 4
 }
 
 // The kind of a stored last activate.

@@ -10,7 +10,7 @@ use lib.ListN.{length, getD, set}
 use Rattle.policy.specs.Laws.{TimingLaws}
 use Rattle.timing.specs.declared.Timing.{Timing}
 use Rattle.basics.proofs.Stores.{stored-at, stored-in-both}
-use Rattle.requests.specs.Word.{rankOf, kindOf, bankOf, bankPlace}
+use Rattle.requests.specs.Word.{rankOf, kindOf, bankPlace}
 use Rattle.rules.specs.Wire.{gapMet, kindGap, bankGap, rankGapMet, gapsMetBy, gapsMet}
 use Rattle.flight.specs.declared.Flight.{Flight}
 use Rattle.rules.proofs.Wire.{kind-rested, rank-rested, bank-rested}
@@ -37,12 +37,12 @@ same-met : (met : ℕ → Bool) (dead t x y : ℕ) → ((z : ℕ) → gapMet z d
 same-met met dead t x y old h = ⊎-elim (λ e. ap met e) (λ rest. old x (rest .0) ∙ sym (old y (rest .1))) h
 
 -- so it is with each gap, since none is longer than the dead time
-pub same-gaps : (timing : Timing) (t : ℕ) (f g : Flight) (w : ℕ) → TimingLaws timing → bankOf w < 8 → kindOf w < 2 → LastsAgree (timing .dead) t f g → gapsMet timing f w t ≡ gapsMet timing g w t
+pub same-gaps : (timing : Timing) (t : ℕ) (f g : Flight) (w : ℕ) → TimingLaws timing → kindOf w < 2 → LastsAgree (timing .dead) t f g → gapsMet timing f w t ≡ gapsMet timing g w t
 unfolding gapsMet gapsMetBy
-same-gaps timing t f g w laws bank kind h =
+same-gaps timing t f g w laws kind h =
     let of-bank : Flight → ℕ = λ x. getD (x .banks) (bankPlace w) 0 in
     ap₂ _&&_
     (ap₂ _&&_
     (same-met (λ z. gapMet z (kindGap timing z (kindOf w)) t) (timing .dead) t (f .last) (g .last) (kind-rested timing laws t (kindOf w) kind) (h .of-all))
     (same-met (λ z. rankGapMet timing z (rankOf w) t) (timing .dead) t (f .last) (g .last) (rank-rested timing laws t (rankOf w)) (h .of-all)))
-    (same-met (λ z. gapMet z (bankGap timing z) t) (timing .dead) t (of-bank f) (of-bank g) (bank-rested timing laws t) (h .of-bank (bankPlace w) (place-small w bank)))
+    (same-met (λ z. gapMet z (bankGap timing z) t) (timing .dead) t (of-bank f) (of-bank g) (bank-rested timing laws t) (h .of-bank (bankPlace w) (place-small w)))

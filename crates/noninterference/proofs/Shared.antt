@@ -23,7 +23,7 @@ use Rattle.requests.specs.declared.Wires.the-variants.{Activate, Column}
 use Rattle.queues.specs.declared.Queues.{Queues}
 use Rattle.flight.specs.declared.Flight.{Flight}
 use Rattle.requests.proofs.Word.{place-small}
-use Rattle.rules.proofs.Range.{sound-bank, sound-kind, BusRange, goes-waits, waiting-sound, going-sound}
+use Rattle.rules.proofs.Range.{sound-kind, BusRange, goes-waits, waiting-sound}
 use Rattle.rules.proofs.Step.{drive-column, drive-nothing, drive-activate}
 use Rattle.rules.proofs.Queue.{dequeue-passed, dequeue-else-passed, dequeue-closes, dequeue-beside}
 use Rattle.rules.proofs.PendingWords.{inside}
@@ -91,7 +91,7 @@ module _ (low : ℕ → Bool) (n : ℕ) (b : Bus) (r : Queues) (g : Flight) wher
         let w = waitingAt q owner k in
         let sound = waiting-sound n b one k some in
         ap₂ (λ (passed : ℕ) (met : Bool). (eqb k 0 || ltb passed mostPassed) && met) (queues owner is-low .passed)
-        (same-gaps (b .timing) t f g w (one .timed) (sound-bank n (b .timing .ranks) w sound) (sound-kind n (b .timing .ranks) w sound) lasts ∙ ap (λ (x : ℕ). gapsMet (b .timing) g x t) (same-word k some))
+        (same-gaps (b .timing) t f g w (one .timed) (sound-kind n (b .timing .ranks) w sound) lasts ∙ ap (λ (x : ℕ). gapsMet (b .timing) g x t) (same-word k some))
 
     -- so the first that may go is at the same place
     same-place : goesAt b ≡ goesAt c
@@ -168,9 +168,8 @@ module _ (low : ℕ → Bool) (n : ℕ) (b : Bus) (r : Queues) (g : Flight) wher
         let at = activateAt t (rankOf w) (kindOf w) in
         let column = t + b .timing .column in
         let response = t + b .timing .response in
-        let bank = place-small w (sound-bank n (b .timing .ranks) w (going-sound n b one some)) in
-        let bank-f = subst (λ (k : ℕ). bankPlace w < k) (sym (fr .banks-long)) bank in
-        let bank-g = subst (λ (k : ℕ). bankPlace w < k) (sym (gr .banks-long)) bank in
+        let bank-f = subst (λ (k : ℕ). bankPlace w < k) (sym (fr .banks-long)) (place-small w) in
+        let bank-g = subst (λ (k : ℕ). bankPlace w < k) (sym (gr .banks-long)) (place-small w) in
         let same-banks : set (g .banks) (bankPlace w) at ≡ set (g .banks) (bankPlace v) (activateAt t (rankOf v) (kindOf v)) = ap (λ (x : ℕ). set (g .banks) (bankPlace x) (activateAt t (rankOf x) (kindOf x))) same in
         record {
           wires = ap (λ (x : ℕ). Activate (requestOf x)) same;

@@ -1,5 +1,5 @@
 -- The waiting requests: how they are stored, and what 13 refuses of them. Those of a class, oldest first, are a ring of 8 places: its head's place, its length, and the
--- words from there on. Beside each queue stands how many requests have passed its oldest.
+-- words from there on. W-206: "waiting and in-flight requests hold" the rank: each is stored by its word. Beside each queue stands how many requests have passed its oldest.
 use mathlib.Core.Bool.{Bool, _&&_, _||_}
 use mathlib.Core.List.{List}
 use Prim.Native.Nat.{ℕ, _+_, _*_, _%_}

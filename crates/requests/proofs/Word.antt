@@ -1,27 +1,27 @@
 -- A request and its word say the same: each field is read back as it was written, and an offer's word is that of its request. So are the
 -- wires that a command's number says those that it was made from.
 -- Assumes nothing.
-use mathlib.Core.Path.{_≡_, ap, ap₂, _∙_}
+use mathlib.Core.Path.{_≡_, ap, _∙_}
 use mathlib.Core.Logic.{⊎-elim}
-use mathlib.Core.Bool.{true, false, cond}
+use mathlib.Core.Bool.{true, false}
 use Prim.Native.Nat.{ℕ, _+_, _*_, _/_, _%_, _≤_, _<_, min}
 use native.Mathlib.Omega.{arith}
 use borrow.Author.Tests.{le-leb, lt-leb, eqb-true, eq-eqb, ne-eqb}
-use lib.Dec.{leb, eqb}
+use lib.Dec.{eqb}
 use Rattle.basics.proofs.Truth.{on-true, on-false}
 use Rattle.basics.proofs.Below.{lt-or-ge}
 use Rattle.requests.specs.Word.{classOf, rankOf, kindOf, bankOf, tagOf, bankPlace, isOffer, requestOf, bankInWord, wordOf, columnNumber, wiresOf}
 use Rattle.requests.specs.declared.Request.{Request}
 use Rattle.requests.specs.declared.Wires.the-variants.{Nothing, Activate, Column}
 
--- a rank has two bits, and a bank below 8 a place among those of four ranks
+-- a rank has two bits, and a bank a place among those of four ranks
 pub rank-small : (w : ℕ) → rankOf w < 4
 unfolding rankOf
 rank-small w = omega arith
 
-pub place-small : (w : ℕ) → bankOf w < 8 → bankPlace w < 32
+pub place-small : (w : ℕ) → bankPlace w < 32
 unfolding bankPlace
-place-small w small = omega (arith, small, rank-small w)
+place-small w = omega (arith, rank-small w)
 
 -- the bank of a word, where the rank has its field, and where it is too large
 pub bank-held : (r : Request) → r .rank < 4 → bankInWord r ≡ min (r .bank) 15

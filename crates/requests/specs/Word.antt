@@ -25,11 +25,11 @@ bankOf w = w / 65536 % 16
 unfoldable pub tagOf : ℕ → ℕ
 tagOf w = w % 65536
 
--- W-206: "a bank is then known by rank and bank": its place among the "four ranks of eight banks"
+-- W-206: "a bank is then known by rank and bank": the place of a word's bank among the "four ranks of eight banks". 10 refuses a bank above 7; here it counts as what it is modulo 8.
 unfoldable pub bankPlace : ℕ → ℕ
-bankPlace w = 8 * rankOf w + bankOf w
+bankPlace w = 8 * rankOf w + bankOf w % 8
 
--- the word has the form of an offer: bit 31 set, and bits 29 and 30 not
+-- the word has the form of an offer: bit 31 set, and bits 29 and 30 not. W-206: "A trace number is no longer malformed for its bits 22 and 23."
 unfoldable pub isOffer : ℕ → Bool
 isOffer w = eqb (w / 536870912) 4
 

@@ -3,7 +3,7 @@
 ghost use mathlib.Core.Path.{_≡_};
 ghost use Prim.Native.Nat.{min, _+_, _*_, _%_, _<_};
 ghost use Rattle.requests.specs.Sizes.{bankPlaces};
-ghost use Rattle.requests.specs.Word.{classOf, rankOf, kindOf, bankOf, tagOf, requestOf, bankInWord, wordOf, isOffer, classFits, bankKindRankFit, soundWord, commandNumber, wiresOf};
+ghost use Rattle.requests.specs.Word.{classOf, rankOf, kindOf, bankOf, tagOf, bankPlace, requestOf, bankInWord, wordOf, isOffer, classFits, bankKindRankFit, soundWord, commandNumber, wiresOf};
 use super::BANK_COUNT;
 use super::Request;
 use super::Wires;
@@ -37,10 +37,9 @@ pub fn bank_of(word: u32) -> u32
     word / 65536 % 16
 }
 
-// The place of a word's bank among those of all ranks: "a bank is then known by rank and bank". A bank is below 8; another number, of which document 01 says nothing, counts as what it is
-// modulo 8.
+// The place of a word's bank among those of all ranks.
 pub fn bank_place(word: u32) -> usize
-    ensures place { λ r. ⌜ r ≡ 8 * rankOf word + bankOf word % 8 ⌝ }
+    ensures place { λ r. ⌜ r ≡ bankPlace word ⌝ }
     ensures small { λ r. ⌜ r < bankPlaces ⌝ }
 {
     8 * (rank_of(word) as usize) + bank_of(word) as usize % BANK_COUNT

@@ -7,15 +7,15 @@ use mathlib.Core.List.{List}
 use Prim.Native.Nat.{ℕ, zero, suc, _+_, _-_, _%_, _≤_, _<_, zero-le}
 use native.Mathlib.Nat.{not-suc-le-zero}
 use native.Mathlib.Omega.{arith}
-use borrow.Author.Tests.{eqb-false, eq-eqb, leb-true, le-leb, ltb-true}
-use lib.Dec.{leb, ltb, eqb, lit<}
+use borrow.Author.Tests.{eqb-false, eq-eqb, ltb-true}
+use lib.Dec.{ltb, eqb, lit<}
 use lib.ListN.{length, getD, length-set}
 use Rattle.order.specs.Order.{isClassIn}
 use Rattle.order.specs.Laws.{SmallClasses}
 use Rattle.policy.specs.Policy.{isClass, coverCount}
 use Rattle.policy.specs.Policy.{inRange as policyInRange}
 use Rattle.policy.specs.declared.Policy.{Policy}
-use Rattle.basics.proofs.Truth.{either, not-both, and-left, and-right, and-both, on-true, on-false}
+use Rattle.basics.proofs.Truth.{either, not-both, and-both, on-true, on-false}
 use Rattle.basics.proofs.Below.{lt-or-ge}
 use Rattle.basics.proofs.Stores.{same-or-other}
 use Rattle.policy.proofs.Laws.{policy-laws}
@@ -37,10 +37,10 @@ use Rattle.state.specs.declared.State.{State}
 use Rattle.state.specs.declared.Made.{Made}
 use Rattle.state.specs.declared.Offered.{Offered}
 use Rattle.state.specs.declared.Ticked.{Ticked}
-use Rattle.requests.proofs.Word.{rank-small, place-small, bank-held, class-back, rank-back, kind-back, bank-back, is-offer, word-back, wires-activate, wires-column}
+use Rattle.requests.proofs.Word.{rank-small, bank-held, class-back, rank-back, kind-back, bank-back, is-offer, word-back, wires-activate, wires-column}
 use Rattle.rules.proofs.Queue as waiting
 use Rattle.rules.proofs.Wire.{gap-shift, gap-new, gap-none, stored-new, Before}
-use Rattle.rules.proofs.Range.{sound-offer, fit-bounds, fit-back, sound-bank, sound-kind, ranks-few, QueueRange, QueuesRange, Fits, FlightRange, Ranged, ranged, in-range, BusRange, bus-range, goes-waits, goes-past, going-sound, due-offer}
+use Rattle.rules.proofs.Range.{sound-offer, fit-bounds, fit-back, sound-kind, ranks-few, QueueRange, QueuesRange, Fits, FlightRange, Ranged, ranged, in-range, BusRange, bus-range, goes-waits, goes-past, going-sound, due-offer}
 use Rattle.rules.proofs.PendingWords.{Later}
 use Rattle.rules.proofs.FlightKept.{columns-next, responses-next, activates-next}
 use Rattle.rules.proofs.Step.{outcome}
@@ -231,7 +231,7 @@ module _ (n : ℕ) (b : Bus) (r : BusRange n b) where
             (λ due stays. fr .banks-long);
         activates-before =
             activates-next b (Before t) (Before (t + 1)) (λ x early. (early .0, gap-shift x 1 1 t (t + 1) (omega arith) (early .1))) (fr .banks-long)
-            (λ e. (place-small w (sound-bank n ranks w (sound e)), (stored-new t (rankOf w) (kindOf w), gap-new (rankOf w) (kindOf w) 1 t (t + 1) (rank-small w) (sound-kind n ranks w (sound e)) (omega arith))))
+            (λ e. (stored-new t (rankOf w) (kindOf w), gap-new (rankOf w) (kindOf w) 1 t (t + 1) (rank-small w) (sound-kind n ranks w (sound e)) (omega arith)))
             (fr .activates-before);
         columns-due = columns-next b (r .timed) (Fits n ranks column) (Fits n ranks column) (nearer column) (fr .columns-long) (new-fits column) (fr .columns-due);
         responses-due = responses-next b (r .timed) (Fits n ranks response) (Fits n ranks response) (nearer response) (fr .responses-long) (new-fits response) (fr .responses-due);

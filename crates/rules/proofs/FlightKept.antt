@@ -9,6 +9,7 @@ use lib.ListN.{length, getD, set, length-set}
 use Rattle.policy.specs.Laws.{TimingLaws}
 use Rattle.basics.proofs.Stores.{stored-at}
 use Rattle.requests.specs.Word.{rankOf, kindOf, bankPlace}
+use Rattle.requests.proofs.Word.{place-small}
 use Rattle.rules.specs.Wire.{activated}
 use Rattle.flight.specs.Flight.{sentAt, activateAt}
 use Rattle.rules.specs.History.{Each, Activates}
@@ -61,7 +62,7 @@ module _ (b : Bus) (laws : TimingLaws (b .timing)) (P Q : ℕ → ℕ → Type 0
 
 -- ---- the last activates, of all and of each bank
 
-pub activates-next : (b : Bus) (P Q : ℕ → Type 0) → ((x : ℕ) → P x → Q x) → length (b .flight .banks) ≡ 32 → (canActivate b ≡ true → (bankPlace (going b) < 32) × Q (activateAt (b .cycle) (rankOf (going b)) (kindOf (going b)))) → Activates P (b .flight) → Activates Q (answered (b .cycle) (drive b .flight))
+pub activates-next : (b : Bus) (P Q : ℕ → Type 0) → ((x : ℕ) → P x → Q x) → length (b .flight .banks) ≡ 32 → (canActivate b ≡ true → Q (activateAt (b .cycle) (rankOf (going b)) (kindOf (going b)))) → Activates P (b .flight) → Activates Q (answered (b .cycle) (drive b .flight))
 unfolding activated answered
 activates-next b P Q lasts long new h =
     let w = going b in
@@ -72,8 +73,8 @@ activates-next b P Q lasts long new h =
     (λ due. record { of-all = lasts (f .last) (h .of-all); of-bank = bank })
     (λ due goes.
     record {
-      of-all = new goes .1;
+      of-all = new goes;
       of-bank =
-          λ i l. stored-at Q (f .banks) (bankPlace w) at i (subst (λ (k : ℕ). bankPlace w < k) (sym long) (new goes .0)) (λ e. new goes .1) (λ e. bank i l);
+          λ i l. stored-at Q (f .banks) (bankPlace w) at i (subst (λ (k : ℕ). bankPlace w < k) (sym long) (place-small w)) (λ e. new goes) (λ e. bank i l);
     })
     (λ due stays. record { of-all = lasts (f .last) (h .of-all); of-bank = bank })

@@ -41,7 +41,7 @@ use Rattle.rules.specs.Guarantees.{ticksIn, atTick, TickMade, firstTick,
 use Rattle.rules.proofs.Wire.{gap-shift, gaps-rested}
 use Rattle.rules.proofs.PendingWords.{inside}
 use Rattle.rules.proofs.Step.{drive-column, drive-nothing, drive-activate}
-use Rattle.rules.proofs.Range.{FlightRange, ranged, BusRange, bus-range, goes-waits, waiting-sound, going-sound, sound-offer, sound-bank, sound-kind}
+use Rattle.rules.proofs.Range.{FlightRange, ranged, BusRange, bus-range, goes-waits, waiting-sound, going-sound, sound-offer, sound-kind}
 use Rattle.rules.proofs.Calls.{cut-log}
 use Rattle.rules.proofs.ListTicks.{Grown}
 use Rattle.rules.proofs.ListTurns as list
@@ -308,12 +308,11 @@ module _ (p : Policy) (given : policyInRange p ≡ true) where
             let oldest = waitingAt (s .queues) (turns .owner) 0 in
             let word = waiting-sound (p .classes) bus sound 0 some-waits in
             let kind = sound-kind (p .classes) (p .timing .ranks) oldest word in
-            let bank = sound-bank (p .classes) (p .timing .ranks) oldest word in
             let rests : (last : ℕ) → gapMet last dead latest ≡ true → gapMet last dead (s .cycle) ≡ true = λ last. gap-shift last dead dead latest (s .cycle) (omega (arith, cycle)) in
             let of-bank = getD (s .flight .banks) (bankPlace oldest) 0 in
             let gaps =
             gaps-rested (p .timing) timed (s .cycle) (s .flight .last) of-bank (rankOf oldest) (kindOf oldest) kind
-            (rests (s .flight .last) (still .rested .of-all)) (rests of-bank (still .rested .of-bank (bankPlace oldest) (place-small oldest bank)))
+            (rests (s .flight .last) (still .rested .of-all)) (rests of-bank (still .rested .of-bank (bankPlace oldest) (place-small oldest)))
             in
             let offset : s .cycle % turn ≡ dead - 1 = ap (λ (x : ℕ). x % turn) cycle ∙ mul-add-mod-self-right k turn (dead - 1) ∙ mod-eq-of-lt (omega (arith, timed .dead-below-turn)) in
             let allowed = or-right (turns .elided) (ltb (s .cycle % turn) (turn - dead)) (lt-ltb (s .cycle % turn) (turn - dead) (omega (arith, offset, twice, timed .dead-bounds .0))) in

@@ -31,8 +31,8 @@ use Rattle.state.specs.declared.Offered.{Offered}
 use Rattle.state.specs.declared.Ticked.{Ticked}
 use Rattle.rules.proofs.Lookahead.{elision}
 use Rattle.rules.proofs.Wire.{gap-shift, gap-new, gap-none, Before}
-use Rattle.requests.proofs.Word.{rank-small, place-small}
-use Rattle.rules.proofs.Range.{sound-bank, sound-kind, right-sound, right-class, Fits, Ranged, ranged, BusRange, bus-range, goes-waits, going-right}
+use Rattle.requests.proofs.Word.{rank-small}
+use Rattle.rules.proofs.Range.{sound-kind, right-sound, right-class, Fits, Ranged, ranged, BusRange, bus-range, goes-waits, going-right}
 use Rattle.rules.proofs.PendingWords.{Later, each-map}
 use Rattle.rules.proofs.FlightKept.{columns-next, responses-next, activates-next}
 use Rattle.rules.proofs.TurnsKept.{turns-kept}
@@ -207,10 +207,7 @@ module _ (p : Policy) (given : policyInRange p ≡ true) where
         activates-next bus met met (λ x m. m) (w .flight .banks-long)
         (λ e.
         let g = going bus in
-        let word = sound e in (
-          place-small g (sound-bank (p .classes) (p .timing .ranks) g word),
-          gap-new (rankOf g) (kindOf g) dead t (t + 1 + untilTurn p (t + 1)) (rank-small g) (sound-kind (p .classes) (p .timing .ranks) g word) (omega (arith, going-far kept e)),
-        ))
+        gap-new (rankOf g) (kindOf g) dead t (t + 1 + untilTurn p (t + 1)) (rank-small g) (sound-kind (p .classes) (p .timing .ranks) g (sound e)) (omega (arith, going-far kept e)))
         (midway .rested kept)
 
     tick-held : t < lastCycle → inRange p (afterTick p s .state) ≡ true → Held p (afterTick p s .state)

@@ -5,7 +5,7 @@ use mathlib.Core.Path.{_≡_, refl, sym, ap, ap₂, _∙_, subst}
 use mathlib.Core.Logic.{_⊎_, _≢_, inl, inr, ⊎-elim}
 use mathlib.Core.Bool.{Bool, true, false, cond, _&&_, _||_}
 use mathlib.Core.List.{List, [], _∷_, _++_, append-assoc, append-nil}
-use Prim.Native.Nat.{ℕ, zero, suc, _+_, _-_, _*_, _≤_, _<_, zero-le, suc-le-suc}
+use Prim.Native.Nat.{ℕ, suc, _+_, _-_, _*_, _%_, _≤_, _<_, zero-le, suc-le-suc}
 use native.Mathlib.Nat.{not-suc-le-zero}
 use native.Mathlib.Omega.{arith}
 use borrow.Author.Tests.{eqb-true, eqb-false, eq-eqb, lt-ltb}
@@ -19,7 +19,6 @@ use Rattle.basics.proofs.Truth.{either, false-unless, not-both, and-left, and-r
 use Rattle.basics.specs.Below.{listOf}
 use Rattle.basics.proofs.Below.{length-listOf, getD-listOf}
 use Rattle.policy.proofs.Laws.{policy-laws}
-use Rattle.requests.specs.Sizes.{lastCycle}
 use Rattle.requests.specs.Word.{classOf, rankOf, kindOf, bankOf, bankPlace, requestOf, wordOf, isOffer, classFits, bankKindRankFit, columnNumber, commandNumber}
 use Rattle.requests.specs.declared.Request.{Request}
 use Rattle.requests.proofs.Word.{word-back, column-no-offer}
@@ -33,11 +32,11 @@ use Rattle.rules.specs.Queue.{enqueue, passedAfter, offerStatus, queuesA
 use Rattle.rules.specs.Wire.{gapsMetBy, gapsMet}
 use Rattle.rules.specs.Step.{turnsAt, TurnStart, Driven, Bus, dueColumn, mayGo, goesAt, going, canActivate, columnSent, requestSent, nothingSent, drive, answered}
 use Rattle.rules.specs.Call.{offerOn, busAt, afterTick, silent}
-use Rattle.rules.specs.Calls.{Answer, ticked, offered, answerTo, stateAfter, logOf}
+use Rattle.rules.specs.Calls.{Answer, offered, answerTo, stateAfter, logOf}
 use Rattle.rules.specs.Overtaking.{onlyIf, those, ofClass, ofStream, takenOffers, commandsIn, activations, Overtaking}
 use Rattle.rules.proofs.Queue.{enqueue-passed, enqueue-end, enqueue-beside, dequeue-closes, dequeue-beside, dequeue-passed, dequeue-else-passed}
-use Rattle.rules.proofs.Step.{turn-owner, outcome}
-use Rattle.rules.proofs.Range.{ranged, small-classes, right-class, sound-offer, BusRange, bus-range, goes-waits, goes-first, goes-past, going-right, going-sound, due-offer}
+use Rattle.rules.proofs.Step.{outcome}
+use Rattle.rules.proofs.Range.{ranged, small-classes, right-class, sound-offer, BusRange, goes-waits, goes-first, goes-past, going-right, going-sound, due-offer}
 use Rattle.rules.proofs.CallsKept.{below-sixteen, room, taken, tick-bus, zero-at, fresh-fits}
 use Rattle.rules.proofs.SingleCalls.{any-call}
 use Rattle.rules.proofs.Calls.{answered-in-range, after-in-range}
@@ -231,7 +230,7 @@ module _ (p : Policy) (c : ℕ) (small : c < 16) (s : State) (fits : inRange p s
         → gapsMet (p .timing) (s .flight) (waitingAt q owner j) (s .cycle) ≡ gapsMet (p .timing) (s .flight) (going bus) (s .cycle)
     unfolding gapsMet bankPlace
     together j rank bank kind =
-        ap₂ (λ (r b : ℕ). gapsMetBy (p .timing) (s .flight .last) (getD (s .flight .banks) (8 * r + b) 0) r (kindOf (waitingAt q owner j)) (s .cycle)) rank bank
+        ap₂ (λ (r b : ℕ). gapsMetBy (p .timing) (s .flight .last) (getD (s .flight .banks) (8 * r + b % 8) 0) r (kindOf (waitingAt q owner j)) (s .cycle)) rank bank
         ∙ ap (λ (k : ℕ). gapsMetBy (p .timing) (s .flight .last) (getD (s .flight .banks) (bankPlace (going bus)) 0) (rankOf (going bus)) k (s .cycle)) kind
 
     -- so none older with the rank, bank and kind of the one that goes waits: it would go

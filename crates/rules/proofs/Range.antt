@@ -374,6 +374,6 @@ module _ (n : ℕ) (b : Bus) (r : BusRange n b) where
             λ k some.
             let w = waitingAt (b .queues) (b .owner) k in
             let sound = waiting-sound k some in
-            record { offer = sound-offer n ranks w sound; bank = sound-bank n ranks w sound; kind = sound-kind n ranks w sound };
+            record { offer = sound-offer n ranks w sound; kind = sound-kind n ranks w sound };
         due-offer = due-offer;
       }

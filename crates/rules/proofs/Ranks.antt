@@ -10,8 +10,8 @@ use native.Mathlib.Nat.{not-suc-le-zero}
 use native.Mathlib.Omega.{arith}
 use borrow.Author.Tests.{eqb-false, eq-eqb, ne-eqb, leb-true, le-leb, lt-ltb}
 use lib.Dec.{leb, ltb, eqb, lit<}
-use lib.ListN.{length, getD, drop}
-use Rattle.policy.specs.Policy.{isClass, inRange as policyInRange}
+use lib.ListN.{length, getD}
+use Rattle.policy.specs.Policy.{inRange as policyInRange}
 use Rattle.policy.specs.declared.Policy.{Policy}
 use Rattle.policy.proofs.Laws.{policy-laws}
 use Rattle.basics.proofs.Truth.{either, and-right, and-three, and-fails-left}
@@ -19,10 +19,10 @@ use Rattle.basics.proofs.Stores.{stored-at}
 use Rattle.requests.specs.Word.{rankOf, kindOf, bankOf, bankPlace, isOffer, requestOf, classFits, bankKindRankFit, soundWord, columnNumber, commandNumber}
 use Rattle.requests.proofs.Word.{rank-small, word-back, column-no-offer}
 use Rattle.queues.specs.Waiting.{lengthOf, passedOf, waitingAt}
-use Rattle.flight.specs.Flight.{dueAt, activateAt, activateNext, activateRank}
+use Rattle.flight.specs.Flight.{dueAt, activateAt, activateRank}
 use Rattle.rules.specs.Queue.{offerStatus}
 use Rattle.rules.specs.Wire.{opensAt, rankOpens, rankGapMet, gapMet, kindGap, bankGap, gapsMetBy, gapsMet, activated}
-use Rattle.rules.specs.Step.{turnStarts, turnWord, turnsAt, Bus, Driven, dueColumn, mayGo, goesAt, going, canActivate, requestSent, drive, answered}
+use Rattle.rules.specs.Step.{turnStarts, turnWord, turnsAt, Bus, dueColumn, mayGo, goesAt, going, canActivate, requestSent, drive, answered}
 use Rattle.rules.specs.Call.{offerOn, busAt, afterTick, silent}
 use Rattle.rules.specs.Calls.{Answer, answerTo, stateAfter, logOf}
 use Rattle.rules.specs.Overtaking.{onlyIf, those, commandsIn, activations}
@@ -32,7 +32,7 @@ use Rattle.state.specs.Range.{inRange}
 use Rattle.state.specs.declared.State.{State}
 use Rattle.rules.proofs.Wire.{next-new, rank-new, some-new}
 use Rattle.rules.proofs.Step.{turn-shown, outcome}
-use Rattle.rules.proofs.Range.{sound-offer, sound-kind, sound-rank, right-sound, ranged, BusRange, goes-waits, goes-first, going-sound, due-offer}
+use Rattle.rules.proofs.Range.{sound-offer, sound-bank, sound-kind, sound-rank, right-sound, ranged, BusRange, goes-waits, goes-first, going-sound, due-offer}
 use Rattle.rules.proofs.CallsKept.{tick-bus, fresh-fits}
 use Rattle.rules.proofs.SingleCalls.{any-call}
 use Rattle.rules.proofs.Calls.{answered-in-range, after-in-range}
@@ -297,17 +297,19 @@ module _ (p : Policy) (one : p .timing .ranks ≡ 1) where
     abbrev w : ℕ
     w = waitingAt (s .queues) c k
 
+    waits-sound : soundWord (p .classes) (p .timing .ranks) w ≡ true
+    waits-sound = right-sound (p .classes) (p .timing .ranks) c w (ranged p s fits .queues .queue c small .right k waits)
+
     waits-zero : rankOf w ≡ 0
-    waits-zero = on-zero w (right-sound (p .classes) (p .timing .ranks) c w (ranged p s fits .queues .queue c small .right k waits))
+    waits-zero = on-zero w waits-sound
 
     not-asked : rankOpens (p .timing) (s .flight .last) (rankOf w) ≡ 0
     unfolding rankOpens
     not-asked = rw (eq-eqb (activateRank (s .flight .last)) (rankOf w) (last ∙ sym waits-zero))
 
-    -- its bank's place is its bank's number
-    its-bank : bankPlace w ≡ bankOf w
+    same-place : bankPlace w ≡ bankOf w
     unfolding bankPlace
-    its-bank = omega (arith, waits-zero)
+    same-place = omega (arith, waits-zero, sound-bank (p .classes) (p .timing .ranks) w waits-sound)
 
     same-gaps : (t : ℕ) → gapsMet (p .timing) (s .flight) w t ≡ gapsBefore p (s .flight) w t
     unfolding gapsMet gapsMetBy rankGapMet
@@ -315,11 +317,11 @@ module _ (p : Policy) (one : p .timing .ranks ≡ 1) where
         let f = s .flight in
         let kinds = gapMet (f .last) (kindGap (p .timing) (f .last) (kindOf w)) t in
         let of-bank : ℕ → Bool = λ b. gapMet (getD (f .banks) b 0) (bankGap (p .timing) (getD (f .banks) b 0)) t in
-        ap₂ (λ (k b : ℕ). kinds && leb k (t + 1) && of-bank b) not-asked its-bank ∙ ap (λ (b : Bool). kinds && b && of-bank (bankOf w)) (le-leb 0 (t + 1) zero-le)
+        ap₂ (λ (k b : ℕ). kinds && leb k (t + 1) && of-bank b) not-asked same-place ∙ ap (λ (b : Bool). kinds && b && of-bank (bankOf w)) (le-leb 0 (t + 1) zero-le)
         ∙ ap (λ (b : Bool). b && of-bank (bankOf w)) (and-true kinds)
 
     as-before : GapsAsBefore p s c k
-    as-before = record { not-asked = not-asked; same-gaps = same-gaps }
+    as-before = record { not-asked = not-asked; same-gaps = same-gaps; same-place = same-place }
 
   -- there was none in a fresh state
   fresh-last : activateRank (freshState p .flight .last) ≡ 0

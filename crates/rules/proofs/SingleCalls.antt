@@ -18,7 +18,7 @@ use Rattle.basics.proofs.Truth.{false-unless, either, same-truth, on-true, on-f
 use Rattle.basics.proofs.Below.{lt-or-ge}
 use Rattle.policy.proofs.Laws.{policy-laws}
 use Rattle.requests.specs.Sizes.{lastCycle}
-use Rattle.requests.specs.Word.{classOf, rankOf, kindOf, bankOf, isOffer, requestOf, wordOf, classFits, bankKindRankFit}
+use Rattle.requests.specs.Word.{classOf, isOffer, requestOf, wordOf, classFits, bankKindRankFit}
 use Rattle.rules.specs.Queue.{enqueue, offerStatus, queuesAfter}
 use Rattle.state.specs.Range.{inRange}
 use Rattle.rules.specs.Call.{offerOn, offer, silent, tick, afterTick}

@@ -89,7 +89,7 @@ module _ (timing : Timing) (laws : TimingLaws timing) (t : ℕ) where
 
 -- ---- before a cycle
 
--- what is stored is an activate, or none: a 1 to 15 is neither
+-- what is stored is an activate, or none: a 1 to 7 is neither
 abbrev pub Stored : ℕ → Type 0
 Stored last = (eqb last 0 || leb 1 (activateNext last)) ≡ true
 

@@ -50,7 +50,8 @@ pub record SingleLaws : Type 0 where
   pub tick-called : (p : Policy) (s : State) → answerTo p s 0 ≡ ticked (tick p s)
   pub offer-called : (p : Policy) (s : State) (r : Request) → answerTo p s (wordOf r) ≡ offered (offer p s r)
   -- a request of which the word cannot hold a number as it is, which document 01 leaves open, is refused
-  pub too-large : (p : Policy) (s : State) (r : Request) → inRange p s ≡ true → (32 ≤ r .class) ⊎ (4 ≤ r .rank) ⊎ (4 ≤ r .kind) ⊎ (16 ≤ r .bank) → ((offer p s r .status ≡ 9) ⊎ (offer p s r .status ≡ 10)) × (offer p s r .state ≡ s)
+  pub too-large : (p : Policy) (s : State) (r : Request) → inRange p s ≡ true → (32 ≤ r .class) ⊎ (4 ≤ r .rank) ⊎ (4 ≤ r .kind) ⊎ (16 ≤ r .bank)
+      → ((offer p s r .status ≡ 9) ⊎ (offer p s r .status ≡ 10)) × (offer p s r .state ≡ s)
 
 -- the waiting requests of a class: an enqueue puts one at the end, a dequeue takes the k-th from the oldest and "the rest of the queue closes up in its order" (W-203), and other classes' stay. And how many have passed the oldest: a dequeue of
 -- another counts one more, one of the oldest sets it to 0, and nothing else changes it.

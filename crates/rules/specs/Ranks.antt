@@ -7,7 +7,7 @@ use lib.Dec.{leb, eqb}
 use lib.ListN.{length, getD, drop}
 use Rattle.policy.specs.Policy.{isClass}
 use Rattle.policy.specs.declared.Policy.{Policy}
-use Rattle.requests.specs.Word.{rankOf, kindOf, bankOf, isOffer, requestOf, bankKindRankFit}
+use Rattle.requests.specs.Word.{rankOf, kindOf, bankOf, bankPlace, isOffer, requestOf, bankKindRankFit}
 use Rattle.queues.specs.Waiting.{lengthOf, waitingAt}
 use Rattle.flight.specs.declared.Flight.{Flight}
 use Rattle.state.specs.Fresh.{freshState}
@@ -42,10 +42,11 @@ gapsBefore p f w t =
     let ofBank = getD (f .banks) (bankOf w) 0 in
     gapMet (f .last) (kindGap (p .timing) (f .last) (kindOf w)) t && gapMet ofBank (bankGap (p .timing) ofBank) t
 
--- the k-th request from the oldest that waits in a class's queue after a list of calls is on the rank of the last activate of all, so that the rank gap is not asked of the two; and its gaps are document 01's, at every cycle
+-- the k-th request from the oldest that waits in a class's queue after a list of calls is on the rank of the last activate of all, so that the rank gap is not asked of the two; its gaps are document 01's, at every cycle; and where it is activated, that is stored as its bank's last activate by the bank's number
 pub record GapsAsBefore (p : Policy) (s : State) (c k : ℕ) : Type 0 where
   pub not-asked : rankOpens (p .timing) (s .flight .last) (rankOf (waitingAt (s .queues) c k)) ≡ 0
   pub same-gaps : (t : ℕ) → gapsMet (p .timing) (s .flight) (waitingAt (s .queues) c k) t ≡ gapsBefore p (s .flight) (waitingAt (s .queues) c k) t
+  pub same-place : bankPlace (waitingAt (s .queues) c k) ≡ bankOf (waitingAt (s .queues) c k)
 
 -- of every policy in range with one rank, as a file with ten timing bytes gives it (`Taken.policyOf`)
 pub record TenByteLogs (p : Policy) : Type 0 where

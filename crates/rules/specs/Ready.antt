@@ -4,14 +4,13 @@ use mathlib.Core.Path.{_≡_}
 use mathlib.Core.Bool.{true}
 use Prim.Native.Nat.{ℕ, _≤_, _<_}
 use Rattle.policy.specs.Laws.{TimingLaws}
-use Rattle.requests.specs.Sizes.{lastCycle, ringPlaces, bankCount}
-use Rattle.requests.specs.Word.{kindOf, bankOf, isOffer}
+use Rattle.requests.specs.Sizes.{lastCycle, ringPlaces}
+use Rattle.requests.specs.Word.{kindOf, isOffer}
 use Rattle.queues.specs.Waiting.{lengthOf, waitingAt}
 use Rattle.rules.specs.Step.{Bus, dueColumn}
 
 pub record SoundRequest (w : ℕ) : Type 0 where
   pub offer : isOffer w ≡ true
-  pub bank : bankOf w < bankCount
   pub kind : kindOf w < 2
 
 pub record Ready (b : Bus) : Type 0 where

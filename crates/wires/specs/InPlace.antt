@@ -6,8 +6,8 @@ use Prim.Native.Nat.{ℕ, _+_, _%_, _≤_, _<_, max}
 use lib.Dec.{eqb}
 use lib.ListN.{getD}
 use Rattle.timing.specs.declared.Timing.{Timing}
-use Rattle.requests.specs.Sizes.{ringPlaces, bankCount}
-use Rattle.requests.specs.Word.{rankOf, kindOf, bankOf, bankPlace, commandNumber}
+use Rattle.requests.specs.Sizes.{ringPlaces}
+use Rattle.requests.specs.Word.{rankOf, kindOf, bankPlace, commandNumber}
 use Rattle.queues.specs.Waiting.{lengthOf, place}
 use Rattle.rules.specs.Queue.{enqueue}
 use Rattle.rules.specs.Wire.{opensAt, bankGap, rankOpens, gapsMetBy}
@@ -34,10 +34,9 @@ mayGoBy timing cycle last slots banks class head passed k =
     let word = getD slots (place class head k) 0 in
     mayPass k passed && gapsMetBy timing last (getD banks (bankPlace word) 0) (rankOf word) (kindOf word) cycle
 
--- a queue is no longer than its ring, and each of its requests has a bank and a kind
+-- a queue is no longer than its ring, and each of its requests has a kind
 pub record Scannable (slots : List ℕ) (class head length : ℕ) : Type 0 where
   pub short : length ≤ ringPlaces
-  pub bank : (k : ℕ) → k < length → bankOf (getD slots (place class head k) 0) < bankCount
   pub kind : (k : ℕ) → k < length → kindOf (getD slots (place class head k) 0) < 2
 
 -- the command bus, of the numbers and arrays that are worked on

@@ -7,8 +7,8 @@ ghost use lib.Dec.{eqb};
 ghost use lib.ListN.{getD};
 ghost use Rattle.policy.specs.Laws.{TimingLaws};
 ghost use Rattle.basics.specs.Below.{first};
-ghost use Rattle.requests.specs.Sizes.{lastCycle, bankCount, mostPassed};
-ghost use Rattle.requests.specs.Word.{kindOf, bankOf};
+ghost use Rattle.requests.specs.Sizes.{lastCycle, mostPassed};
+ghost use Rattle.requests.specs.Word.{kindOf};
 ghost use Rattle.queues.specs.Waiting.{place};
 ghost use Rattle.flight.specs.Flight.{flightOf};
 ghost use Rattle.rules.specs.Wire.{offsetAllows, activated};
@@ -41,7 +41,7 @@ pub(crate) fn activate(
     responses: &mut Pending,
     banks: &mut Banks,
 ) -> u32
-    ensures { λ r. ⌜ ((cycle < lastCycle) × (bankOf word < bankCount) × (kindOf word < 2)
+    ensures { λ r. ⌜ ((cycle < lastCycle) × (kindOf word < 2)
         → flightOf (now (columns .exit)) (now (responses .exit)) (now (banks .exit)) r
         ≡ activated timing (now (columns .entry)) (now (responses .entry)) (now (banks .entry)) word cycle) ⌝ }
 {
@@ -102,8 +102,8 @@ fn opens_of(
     banks: &Banks,
     word: u32,
 ) -> u64
-    ensures early { λ r. ⌜ (bankOf word < bankCount → r ≤ opensBy timing last read write (now (banks .entry)) word) ⌝ }
-    ensures come { λ r. ⌜ (bankOf word < bankCount → r ≤ tick → opensBy timing last read write (now (banks .entry)) word ≤ tick) ⌝ }
+    ensures early { λ r. ⌜ r ≤ opensBy timing last read write (now (banks .entry)) word ⌝ }
+    ensures come { λ r. ⌜ (r ≤ tick → opensBy timing last read write (now (banks .entry)) word ≤ tick) ⌝ }
 {
     let of_bank = decisions::bank_opens(timing, banks[words::bank_place(word)]);
     let opens = later(of_kind(words::kind_of(word), read, write), of_bank);

@@ -1,7 +1,7 @@
 -- `decisions::kind_gap` meets its contract: a kind is 0, or else 1.
 -- Assumes nothing.
 use mathlib.Core.Path.{_≡_}
-use Prim.Native.Nat.{ℕ, _+_, _*_}
+use Prim.Native.Nat.{_+_, _*_}
 use native.Mathlib.Omega.{arith}
 use borrow.Author.Needs.{needs}
 use Rattle.decisions.proofs.kind_gap.Statement.{statement}

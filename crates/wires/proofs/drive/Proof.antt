@@ -79,7 +79,7 @@ unfolding headOf lengthOf waitingAt
 scannable c g =
     let a = start-of c .args in
     subst (λ (o : ℕ). Scannable (a .slots .now) o (getD (a .heads .now) o 0) (getD (a .lengths .now) o 0)) (sym (owner-is (start-of c) g))
-    (record { short = g .ready .short; bank = λ k waits. g .ready .sound k waits .bank; kind = λ k waits. g .ready .sound k waits .kind })
+    (record { short = g .ready .short; kind = λ k waits. g .ready .sound k waits .kind })
 
 -- so the place found is that of the request that goes
 place-is : (c : tie.After-goes-at) → Given (start-of c) → c .goes-at .result .place ≡ goesAt (bus-of (start-of c))
@@ -254,7 +254,7 @@ returns-4 c g =
     record {
       command = word ∙ right .command;
       queues-are = removed ∙ ap₂ (dequeue (queues-of s)) owner place ∙ right .queues-are;
-      flight-is = c .activate .ensures (g .ready .ticks-left, request .bank, request .kind)
+      flight-is = c .activate .ensures (g .ready .ticks-left, request .kind)
           ∙ ap (λ (w : ℕ). activated (a .timing) (a .columns .now) (a .responses .now) (a .banks .now) w (a .at .cycle)) word
           ∙ right .flight-is;
       none-until = right .none-until;

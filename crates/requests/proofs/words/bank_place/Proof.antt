@@ -3,6 +3,7 @@
 use native.Mathlib.Omega.{arith}
 use borrow.Author.Needs.{needs}
 use Rattle.requests.proofs.Word.{rank-small}
+use Rattle.requests.specs.Word.{bankPlace}
 use Rattle.requests.proofs.words.bank_place.Statement.{statement}
 use Rattle.requests.proofs.words.bank_place.Tie as tie
 
@@ -25,6 +26,7 @@ add-result : tie.Need-add-result
 add-result c = search needs
 
 returns : tie.Need-returns
+unfolding bankPlace
 returns c =
     let w = c .before .before .args .word in (
       rw (c .bank-of .ensures, c .before .rank-of .ensures),

@@ -3,7 +3,7 @@
 use mathlib.Core.Path.{_≡_}
 use Prim.Native.Nat.{ℕ, _+_, _%_}
 use native.Mathlib.Omega.{arith}
-use Rattle.requests.specs.Word.{rankOf, kindOf, bankOf, bankPlace}
+use Rattle.requests.specs.Word.{rankOf, kindOf}
 use Rattle.rules.specs.Wire.{activated}
 use borrow.Author.Needs.{needs}
 use Rattle.requests.proofs.Word.{rank-small}
@@ -57,17 +57,16 @@ element-write-banks : tie.Need-element-write-banks
 element-write-banks c = search needs
 
 returns : tie.Need-returns
-unfolding activated bankPlace
-returns c (ticks-left, bank, kind) =
+unfolding activated
+returns c (ticks-left, kind) =
     let start = c .before .before .before .before .before .before in
     let a = start .args in
     let column = wraps-to (a .cycle + a .timing .column) _ (c .before .before .before .before .before .wrapping-add-u32 .ensures) in
     let response = wraps-to (a .cycle + a .timing .response) _ (c .before .before .before .before .wrapping-add-u322 .ensures) in
     let same-cycle : a .cycle % 16777216 ≡ a .cycle = omega (arith, ticks-left) in
     let same-kind : kindOf (a .word) % 2 ≡ kindOf (a .word) = omega (arith, kind) in
-    let same-bank : bankOf (a .word) % 8 ≡ bankOf (a .word) = omega (arith, bank) in
     let same-rank : rankOf (a .word) % 4 ≡ rankOf (a .word) = let small = rank-small (a .word) in omega (arith, small) in
-    rw (column, response, c .activate-at .ensures, c .before .kind-of .ensures, c .before .before .rank-of .ensures, c .before .before .before .bank-place .ensures .0, same-cycle, same-kind, same-bank, same-rank)
+    rw (column, response, c .activate-at .ensures, c .before .kind-of .ensures, c .before .before .rank-of .ensures, c .before .before .before .bank-place .ensures .0, same-cycle, same-kind, same-rank)
 
 pub activate-spec : {M : Type 1} → statement M
 activate-spec =

@@ -18,7 +18,7 @@ use Rattle.basics.specs.Below.{some, first}
 use Rattle.basics.proofs.Truth.{either, not-both, false-unless, and-left, and-right, and-both, and-fails-left, and-fails-right, or-left, or-right}
 use Rattle.basics.proofs.Below.{lt-or-ge, at-or-below, some-found, first-none}
 use Rattle.basics.proofs.Loops.{Missed, missed-none, missed-more, missed-all, found-at}
-use Rattle.requests.specs.Word.{kindOf, bankOf}
+use Rattle.requests.specs.Word.{kindOf}
 use Rattle.queues.specs.Waiting.{place}
 use Rattle.rules.specs.Wire.{opensAt, kindGap}
 use Rattle.wires.specs.InPlace.{opensBy, mayGoBy, Scannable}
@@ -164,20 +164,16 @@ opens-is c =
     ap (opensBy (a .timing) (a .last) (at .before .before .kind-opens .result) (at .before .kind-opens2 .result) (a .banks .now)) word
     ∙ ap₂ (λ (x y : ℕ). opensBy (a .timing) (a .last) x y (a .banks .now) (getD (a .slots .now) (place (a .class) (a .head) (at-of c)) 0)) (at .before .before .kind-opens .ensures) (at .before .kind-opens2 .ensures)
 
--- it has a bank
-its-bank : (c : tie.After-opens-of Inv-loop μ-loop) → Given (start-of c) → bankOf (c .before .waiting-at .result) < 8
-its-bank c g = subst (λ (w : ℕ). bankOf w < 8) (sym (c .before .waiting-at .ensures)) (g .bank (at-of c) (waits c))
-
 -- what is handed back is no later than its tick, and where it has come so has that
-no-later : (c : tie.After-opens-of Inv-loop μ-loop) → Given (start-of c) → c .opens-of .result ≤ opens-at (start-of c) (at-of c)
-no-later c g = subst (λ (n : ℕ). c .opens-of .result ≤ n) (opens-is c) (c .opens-of .ensures .0 (its-bank c g))
+no-later : (c : tie.After-opens-of Inv-loop μ-loop) → c .opens-of .result ≤ opens-at (start-of c) (at-of c)
+no-later c = subst (λ (n : ℕ). c .opens-of .result ≤ n) (opens-is c) (c .opens-of .ensures .0)
 
-come : (c : tie.After-opens-of Inv-loop μ-loop) → Given (start-of c) → c .opens-of .result ≤ start-of c .args .cycle + 1 → opens-at (start-of c) (at-of c) ≤ start-of c .args .cycle + 1
-come c g now = subst (λ (n : ℕ). n ≤ start-of c .args .cycle + 1) (opens-is c) (c .opens-of .ensures .1 (its-bank c g) now)
+come : (c : tie.After-opens-of Inv-loop μ-loop) → c .opens-of .result ≤ start-of c .args .cycle + 1 → opens-at (start-of c) (at-of c) ≤ start-of c .args .cycle + 1
+come c now = subst (λ (n : ℕ). n ≤ start-of c .args .cycle + 1) (opens-is c) (c .opens-of .ensures .1 now)
 
 -- where that has not come, it may not go
 not-it : (c : tie.After-opens-of Inv-loop μ-loop) → Given (start-of c) → (t : ℕ) → t + 1 < c .opens-of .result → may-go (start-of c) t (at-of c) ≡ false
-not-it c g t early = not-yet (start-of c) g t (at-of c) (waits c) (lt-of-lt-of-le early (no-later c g))
+not-it c g t early = not-yet (start-of c) g t (at-of c) (waits c) (lt-of-lt-of-le early (no-later c))
 
 loop-holds : tie.Need-loop-holds Inv-loop μ-loop
 loop-holds c = (λ given. (missed-none _ _, λ i l. absurd (not-suc-le-zero l)), λ past. absurd (not-suc-le-zero past))
@@ -201,7 +197,7 @@ returns-3 c =
       λ g.
           found-at _ (a .length) k (inv .0 g .0) (waits at)
           (may-is (a .timing) (a .last) (a .slots .now) (a .banks .now) (a .class) (a .head) (a .length) (a .passed) g (a .cycle) k (waits at)
-          ∙ and-both passes (le-leb (opens-at s k) (a .cycle + 1) (come at g (c .if3 .taken)))),
+          ∙ and-both passes (le-leb (opens-at s k) (a .cycle + 1) (come at (c .if3 .taken)))),
       (λ g t early. absurd (not-suc-le-zero early), λ waits past. inv .1 past),
     )
 
@@ -249,7 +245,7 @@ loop-again c =
         missed-more _ (s .args .length) k (inv .0 g .0) (waits at) (not-it at g (s .args .cycle) (omega (arith, shut .if3 .left))),
         λ i l.
             ⊎-elim
-            (λ here. subst (λ (n : ℕ). c .before .earlier2 .result ≤ opens-at s n) (sym here) (omega (arith, least, no-later at g)))
+            (λ here. subst (λ (n : ℕ). c .before .earlier2 .result ≤ opens-at s n) (sym here) (omega (arith, least, no-later at)))
             (λ before. omega (arith, least, inv .0 g .1 i before))
             (at-or-below (subst (λ (n : ℕ). i < n) (add-one k) l)),
       ),

@@ -2,12 +2,12 @@
 -- Assumes nothing.
 use mathlib.Core.Path.{_≡_, ap, ap₂, _∙_}
 use mathlib.Core.Bool.{cond}
-use Prim.Native.Nat.{ℕ, _+_, _*_, _%_, _<_, max}
+use Prim.Native.Nat.{ℕ, max}
 use native.Mathlib.Omega.{arith}
 use borrow.Author.Needs.{needs}
 use lib.Dec.{eqb}
 use lib.ListN.{getD}
-use Rattle.requests.specs.Word.{rankOf, kindOf, bankOf, bankPlace}
+use Rattle.requests.specs.Word.{kindOf, bankPlace}
 use Rattle.rules.specs.Wire.{opensAt, bankGap}
 use Rattle.wires.proofs.driving.opens_of.Statement.{statement}
 use Rattle.wires.proofs.driving.opens_of.Tie as tie
@@ -24,21 +24,18 @@ abbrev of-bank : tie.Start → ℕ
 of-bank s = let last = getD (s .args .banks .now) (bankPlace (s .args .word)) 0 in opensAt last (bankGap (s .args .timing) last)
 
 -- the later of them is the one worked out
-two : (c : tie.After-later) → bankOf (start-of c .args .word) < 8 → c .later .result ≡ max (of-kind (start-of c)) (of-bank (start-of c))
-unfolding bankPlace
-two c bank =
+two : (c : tie.After-later) → c .later .result ≡ max (of-kind (start-of c)) (of-bank (start-of c))
+two c =
     let picked = c .before in
     let kind = picked .before in
     let opened = kind .before in
     let read = opened .before .before in
-    let word = start-of c .args .word in
-    let same : bankOf word % 8 ≡ bankOf word = omega (arith, bank) in
     let a = start-of c .args in
     c .later .ensures
     ∙ ap₂ max
     (picked .of-kind .ensures ∙ ap (λ (k : ℕ). cond (eqb k 0) (a .read) (a .write)) (kind .kind-of .ensures))
     (opened .bank-opens .ensures
-    ∙ ap (λ (at : ℕ). opensAt (getD (a .banks .now) at 0) (bankGap (a .timing) (getD (a .banks .now) at 0))) (read .bank-place .ensures .0 ∙ ap (λ (b : ℕ). 8 * rankOf word + b) same))
+    ∙ ap (λ (at : ℕ). opensAt (getD (a .banks .now) at 0) (bankGap (a .timing) (getD (a .banks .now) at 0))) (read .bank-place .ensures .0))
 
 bank-place-requires : tie.Need-bank-place-requires
 bank-place-requires c κs = search needs
@@ -65,7 +62,7 @@ later-requires c κs = search needs
 returns : tie.Need-returns
 returns c =
     let at = c .before in
-    (λ bank. omega (arith, two at bank), λ bank come. absurd (omega (arith, come, c .if1 .taken)))
+    (omega (arith, two at), λ come. absurd (omega (arith, come, c .if1 .taken)))
 
 rank-of-requires : tie.Need-rank-of-requires
 rank-of-requires c κs = search needs
@@ -78,7 +75,7 @@ returns-2 : tie.Need-returns-2
 returns-2 c =
     let at = c .before .before .before in
     let rank = rw (c .before .rank-of .ensures) at (c .rank-opens .ensures) in
-    (λ bank. omega (arith, rank), λ bank come. omega (arith, rank, come, two at bank, c .before .before .if1 .left))
+    (omega (arith, rank), λ come. omega (arith, rank, come, two at, c .before .before .if1 .left))
 
 pub opens-of-spec : {M : Type 1} → statement M
 opens-of-spec =

@@ -109,6 +109,10 @@ and-comm true false = refl
 and-comm false true = refl
 and-comm false false = refl
 
+pub and-true : (a : Bool) → (a && true) ≡ a
+and-true true = refl
+and-true false = refl
+
 pub or-false : (a : Bool) → (a || false) ≡ a
 or-false true = refl
 or-false false = refl

@@ -90,11 +90,10 @@ pub fn kind_opens(timing: Timing, last: u32, kind: u32) -> u64
 pub fn rank_opens(timing: Timing, last: u32, rank: u32) -> u64
     ensures { λ r. ⌜ r ≡ rankOpens timing last rank ⌝ }
 {
-    let opens = opens_at(last, timing.rank);
     if flight::activate_rank(last) == rank {
         0
     } else {
-        opens
+        opens_at(last, timing.rank)
     }
 }
 

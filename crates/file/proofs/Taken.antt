@@ -516,7 +516,7 @@ module _ (s : List ℕ) (h : Encoded s) where
   timing-holds : SoundTiming (word s 14) (λ k. byte s (18 + 3 * byte s 16 + k))
   timing-holds =
       let t = h .sound .timing-sound in
-      let eleven : word s 14 ≡ h .size = h .encoded .timing-entry .size-is in
+      let sized : word s 14 ≡ h .size = h .encoded .timing-entry .size-is in
       let at : (k : ℕ) → k < 10 → byte s (18 + 3 * h .n + k) ≡ h .timing k = λ k below. h .encoded .timing-bytes k (lt-of-lt-of-le below (h .encoded .timing-size .at-least)) in
       subst (λ (m : ℕ). SoundTiming (word s 14) (λ k. byte s (18 + 3 * m + k))) (sym count-is)
       (record {
@@ -536,7 +536,7 @@ module _ (s : List ℕ) (h : Encoded s) where
         column-delay = (omega (arith, at 8 (lit< tt), t .column-delay .0), omega (arith, at 8 (lit< tt), at 9 (lit< tt), t .column-delay .1));
         rank-gap =
             λ e.
-            let size : h .size ≡ 11 = sym eleven ∙ e in
+            let size : h .size ≡ 11 = sym sized ∙ e in
             let g = t .rank-gap size in
             let last = h .encoded .timing-bytes 10 (omega (arith, size)) in
             record { at-least = omega (arith, last, g .at-least); at-most = omega (arith, last, at 1 (lit< tt), g .at-most) };
@@ -592,11 +592,11 @@ module _ (s : List ℕ) (h : Encoded s) where
   timing-number k l = ap (λ (at : ℕ). byte s (at + k)) (h .encoded .timing-entry .start-is) ∙ h .encoded .timing-bytes k l
 
   -- the first ten numbers, whatever the size
-  timing-tenth : (k : ℕ) → k < 10 → byte s (start s 2 + k) ≡ h .timing k
-  timing-tenth k l = timing-number k (lt-of-lt-of-le l (h .encoded .timing-size .at-least))
+  timing-first-ten : (k : ℕ) → k < 10 → byte s (start s 2 + k) ≡ h .timing k
+  timing-first-ten k l = timing-number k (lt-of-lt-of-le l (h .encoded .timing-size .at-least))
 
   timing-first : byte s (start s 2) ≡ h .timing 0
-  timing-first = let at : start s 2 ≡ start s 2 + 0 = omega arith in ap (byte s) at ∙ timing-tenth 0 (lit< tt)
+  timing-first = let at : start s 2 ≡ start s 2 + 0 = omega arith in ap (byte s) at ∙ timing-first-ten 0 (lit< tt)
 
   -- and those of the ranks
   size-is : bodySize s 2 ≡ h .size
@@ -629,11 +629,11 @@ module _ (s : List ℕ) (h : Encoded s) where
         timing =
             record {
               turn = timing-first i;
-              dead = timing-tenth 1 (lit< tt) i;
-              gaps = timing-tenth 2 (lit< tt) i ∷ timing-tenth 3 (lit< tt) i ∷ timing-tenth 4 (lit< tt) i ∷ timing-tenth 5 (lit< tt) i ∷ [];
-              bank = timing-tenth 6 (lit< tt) i ∷ timing-tenth 7 (lit< tt) i ∷ [];
-              column = timing-tenth 8 (lit< tt) i;
-              response = timing-tenth 9 (lit< tt) i;
+              dead = timing-first-ten 1 (lit< tt) i;
+              gaps = timing-first-ten 2 (lit< tt) i ∷ timing-first-ten 3 (lit< tt) i ∷ timing-first-ten 4 (lit< tt) i ∷ timing-first-ten 5 (lit< tt) i ∷ [];
+              bank = timing-first-ten 6 (lit< tt) i ∷ timing-first-ten 7 (lit< tt) i ∷ [];
+              column = timing-first-ten 8 (lit< tt) i;
+              response = timing-first-ten 9 (lit< tt) i;
               ranks = ranks-are i;
               rank = rank-is i;
             };

@@ -7,7 +7,6 @@ use mathlib.Core.List.{List}
 use Prim.Native.Nat.{ℕ, _+_, _%_, _<_}
 use native.Mathlib.Nat.{lt-irrefl}
 use native.Mathlib.Omega.{arith}
-use borrow.Author.Tests.{eqb-false}
 use lib.Dec.{eqb}
 use lib.ListN.{length, set}
 use Rattle.basics.proofs.Truth.{either, not-both, on-either}
@@ -16,8 +15,8 @@ use Rattle.flight.specs.Flight.{dueAt, sentAt}
 use Rattle.rules.specs.Wire.{activated}
 use Rattle.rules.specs.Step.{Bus, dueColumn, goesAt, going, canActivate, drive}
 use Rattle.rules.specs.History.{Each}
-use Rattle.requests.proofs.Word.{word-back, column-class}
-use Rattle.rules.proofs.Range.{sound-offer, right-class, Fits, BusRange, goes-waits, going-right, going-sound, due-offer}
+use Rattle.requests.proofs.Word.{column-class}
+use Rattle.rules.proofs.Range.{right-class, Fits, BusRange, goes-waits, going-right, request-shown, column-shown}
 use Rattle.rules.proofs.PendingWords.{inside}
 use Rattle.rules.proofs.Step.{outcome}
 use Rattle.rules.proofs.Queue.{dequeue-else-passed, dequeue-beside}
@@ -112,7 +111,6 @@ module _ (low : ℕ → Bool) (n : ℕ) (b : Bus) (range : BusRange n b) (high :
       let due = dueColumn b in
       let nothing : (due ≡ 0) → 0 ≡ columnShown (hideWord low due) = λ none. sym (ap columnShown (ap (hideWord low) none ∙ hidden-none low)) in
       outcome b (λ d. hideWord low (commandNumber (d .wires)) ≡ columnShown (hideWord low due))
-      (λ some. ap (λ (k : ℕ). hideWord low (columnNumber k)) (word-back due (due-offer n b range (eqb-false due 0 some))) ∙ column-hidden low due some)
-      (λ none goes.
-      ap (hideWord low) (word-back (going b) (sound-offer n (b .timing .ranks) (going b) (going-sound n b range (goes-waits n b range goes)))) ∙ going-hidden goes ∙ nothing none)
+      (λ some. ap (hideWord low) (column-shown n b range some) ∙ column-hidden low due some)
+      (λ none goes. ap (hideWord low) (request-shown n b range goes) ∙ going-hidden goes ∙ nothing none)
       (λ none stays. hidden-none low ∙ nothing none)

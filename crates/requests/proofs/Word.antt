@@ -14,7 +14,7 @@ use Rattle.requests.specs.Word.{classOf, rankOf, kindOf, bankOf, tagOf, 
 use Rattle.requests.specs.declared.Request.{Request}
 use Rattle.requests.specs.declared.Wires.the-variants.{Nothing, Activate, Column}
 
--- a rank has two bits, and a bank a place among those of four ranks
+-- a rank has two bits, and a bank a place among those of four ranks, which goes by rank and bank alone
 pub rank-small : (w : ℕ) → rankOf w < 4
 unfolding rankOf
 rank-small w = omega arith
@@ -22,6 +22,10 @@ rank-small w = omega arith
 pub place-small : (w : ℕ) → bankPlace w < 32
 unfolding bankPlace
 place-small w = omega (arith, rank-small w)
+
+pub place-same : (v w : ℕ) → rankOf v ≡ rankOf w → bankOf v ≡ bankOf w → bankPlace v ≡ bankPlace w
+unfolding bankPlace
+place-same v w rank bank = omega (arith, rank, bank)
 
 -- the bank of a word, where the rank has its field, and where it is too large
 pub bank-held : (r : Request) → r .rank < 4 → bankInWord r ≡ min (r .bank) 15

@@ -4,6 +4,7 @@ use mathlib.Core.Bool.{Bool, true, false, cond, _&&_}
 use Prim.Native.Nat.{ℕ, _+_, _*_, _/_, _%_, min}
 use lib.Dec.{leb, ltb, eqb}
 use Rattle.order.specs.Order.{isClassIn}
+use Rattle.requests.specs.Sizes.{bankCount}
 use Rattle.requests.specs.declared.Request.{Request}
 use Rattle.requests.specs.declared.Wires.{Wires}
 use Rattle.requests.specs.declared.Wires.the-variants.{Nothing, Activate, Column}
@@ -27,7 +28,7 @@ tagOf w = w % 65536
 
 -- W-206: "a bank is then known by rank and bank": the place of a word's bank among the "four ranks of eight banks". 10 refuses a bank above 7; here it counts as what it is modulo 8.
 unfoldable pub bankPlace : ℕ → ℕ
-bankPlace w = 8 * rankOf w + bankOf w % 8
+bankPlace w = bankCount * rankOf w + bankOf w % bankCount
 
 -- the word has the form of an offer: bit 31 set, and bits 29 and 30 not. W-206: "A trace number is no longer malformed for its bits 22 and 23."
 unfoldable pub isOffer : ℕ → Bool

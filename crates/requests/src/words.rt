@@ -1,7 +1,7 @@
 // A request's word and back, and the numbers of a record's parts in the log.
 
 ghost use mathlib.Core.Path.{_≡_};
-ghost use Prim.Native.Nat.{min, _+_, _*_, _%_, _<_};
+ghost use Prim.Native.Nat.{min, _<_};
 ghost use Rattle.requests.specs.Sizes.{bankPlaces};
 ghost use Rattle.requests.specs.Word.{classOf, rankOf, kindOf, bankOf, tagOf, bankPlace, requestOf, bankInWord, wordOf, isOffer, classFits, bankKindRankFit, soundWord, commandNumber, wiresOf};
 use super::BANK_COUNT;
@@ -42,7 +42,7 @@ pub fn bank_place(word: u32) -> usize
     ensures place { λ r. ⌜ r ≡ bankPlace word ⌝ }
     ensures small { λ r. ⌜ r < bankPlaces ⌝ }
 {
-    8 * (rank_of(word) as usize) + bank_of(word) as usize % BANK_COUNT
+    BANK_COUNT * (rank_of(word) as usize) + bank_of(word) as usize % BANK_COUNT
 }
 
 fn tag_of(word: u32) -> u16

@@ -20,7 +20,7 @@ use Rattle.basics.proofs.Below.{lt-or-ge}
 use Rattle.basics.proofs.Stores.{same-or-other}
 use Rattle.policy.proofs.Laws.{policy-laws}
 use Rattle.requests.specs.Sizes.{lastCycle}
-use Rattle.requests.specs.Word.{classOf, rankOf, kindOf, bankOf, bankPlace, requestOf, wordOf, classFits, bankKindRankFit, soundWord, columnNumber, commandNumber, wiresOf}
+use Rattle.requests.specs.Word.{classOf, rankOf, kindOf, bankOf, bankPlace, requestOf, wordOf, classFits, bankKindRankFit, soundWord, commandNumber, wiresOf}
 use Rattle.queues.specs.Waiting.{headOf, lengthOf, passedOf, waitingAt, rightWord}
 use Rattle.flight.specs.Flight.{dueAt, activateAt, sentAt}
 use Rattle.rules.specs.Queue.{enqueue, passedAfter, dequeue, offerStatus, queuesAfter}
@@ -37,10 +37,10 @@ use Rattle.state.specs.declared.State.{State}
 use Rattle.state.specs.declared.Made.{Made}
 use Rattle.state.specs.declared.Offered.{Offered}
 use Rattle.state.specs.declared.Ticked.{Ticked}
-use Rattle.requests.proofs.Word.{rank-small, bank-held, class-back, rank-back, kind-back, bank-back, is-offer, word-back, wires-activate, wires-column}
+use Rattle.requests.proofs.Word.{rank-small, bank-held, class-back, rank-back, kind-back, bank-back, is-offer, wires-activate, wires-column}
 use Rattle.rules.proofs.Queue as waiting
 use Rattle.rules.proofs.Wire.{gap-shift, gap-new, gap-none, stored-new, Before}
-use Rattle.rules.proofs.Range.{sound-offer, fit-bounds, fit-back, sound-kind, ranks-few, QueueRange, QueuesRange, Fits, FlightRange, Ranged, ranged, in-range, BusRange, bus-range, goes-waits, goes-past, going-sound, due-offer}
+use Rattle.rules.proofs.Range.{sound-offer, fit-bounds, fit-back, sound-kind, ranks-few, QueueRange, QueuesRange, Fits, FlightRange, Ranged, ranged, in-range, BusRange, bus-range, goes-waits, goes-past, goes-sound, request-shown, due-offer, column-shown}
 use Rattle.rules.proofs.PendingWords.{Later}
 use Rattle.rules.proofs.FlightKept.{columns-next, responses-next, activates-next}
 use Rattle.rules.proofs.Step.{outcome}
@@ -202,11 +202,8 @@ module _ (n : ℕ) (b : Bus) (r : BusRange n b) where
   nearer : (bound d w : ℕ) → Fits n ranks bound (d + 1) w → Fits n ranks bound d w
   nearer bound d w h = (omega (arith, h .0), h .1)
 
-  sound : goes → soundWord n ranks (going b) ≡ true
-  sound e = going-sound n b r (goes-waits n b r e)
-
   new-fits : (delay : ℕ) → goes → Later (Fits n ranks delay) delay (going b)
-  new-fits delay e d same = (omega (arith, same), sound e)
+  new-fits delay e d same = (omega (arith, same), goes-sound n b r e)
 
   flight-kept : FlightRange n (b .timing) (t + 1) (answered t (drive b .flight))
   unfolding answered activated
@@ -231,7 +228,7 @@ module _ (n : ℕ) (b : Bus) (r : BusRange n b) where
             (λ due stays. fr .banks-long);
         activates-before =
             activates-next b (Before t) (Before (t + 1)) (λ x early. (early .0, gap-shift x 1 1 t (t + 1) (omega arith) (early .1))) (fr .banks-long)
-            (λ e. (stored-new t (rankOf w) (kindOf w), gap-new (rankOf w) (kindOf w) 1 t (t + 1) (rank-small w) (sound-kind n ranks w (sound e)) (omega arith)))
+            (λ e. (stored-new t (rankOf w) (kindOf w), gap-new (rankOf w) (kindOf w) 1 t (t + 1) (rank-small w) (sound-kind n ranks w (goes-sound n b r e)) (omega arith)))
             (fr .activates-before);
         columns-due = columns-next b (r .timed) (Fits n ranks column) (Fits n ranks column) (nearer column) (fr .columns-long) (new-fits column) (fr .columns-due);
         responses-due = responses-next b (r .timed) (Fits n ranks response) (Fits n ranks response) (nearer response) (fr .responses-long) (new-fits response) (fr .responses-due);
@@ -369,12 +366,8 @@ wires-read : (n : ℕ) (b : Bus) → BusRange n b → wiresOf (commandNumber (dr
 unfolding commandNumber
 wires-read n b r =
     outcome b (λ d. wiresOf (commandNumber (d .wires)) ≡ d .wires)
-    (λ due.
-    let offer = due-offer n b r (eqb-false (dueColumn b) 0 due) in
-    ap (λ (w : ℕ). wiresOf (columnNumber w)) (word-back (dueColumn b) offer) ∙ wires-column (dueColumn b) offer)
-    (λ due goes.
-    let offer = sound-offer n (b .timing .ranks) (going b) (going-sound n b r (goes-waits n b r goes)) in
-    ap wiresOf (word-back (going b) offer) ∙ wires-activate (going b) offer)
+    (λ due. ap wiresOf (column-shown n b r due) ∙ wires-column (dueColumn b) (due-offer n b r (eqb-false (dueColumn b) 0 due)))
+    (λ due goes. ap wiresOf (request-shown n b r goes) ∙ wires-activate (going b) (sound-offer n (b .timing .ranks) (going b) (goes-sound n b r goes)))
     (λ due stays. none-read)
 
 pub tick-wires : (p : Policy) (s : State) → inRange p s ≡ true → wiresOf (commandNumber (tick p s .shown .wires)) ≡ tick p s .shown .wires

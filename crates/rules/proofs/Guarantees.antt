@@ -23,7 +23,7 @@ use Rattle.basics.proofs.Below.{some-at, first-some, count-under, count-either}
 use Rattle.order.proofs.Orders.{apart-strictly}
 use Rattle.policy.proofs.Laws.{policy-laws}
 use Rattle.requests.specs.Word.{rankOf, kindOf, bankPlace, commandNumber}
-use Rattle.requests.proofs.Word.{place-small, word-back}
+use Rattle.requests.proofs.Word.{place-small}
 use Rattle.queues.specs.Waiting.{lengthOf, passedOf, waitingAt}
 use Rattle.queues.specs.declared.Queues.{Queues}
 use Rattle.flight.specs.Flight.{dueAt, sentAt}
@@ -32,7 +32,7 @@ use Rattle.state.specs.Fresh.{freshState}
 use Rattle.state.specs.declared.State.{State}
 use Rattle.state.specs.declared.Turns.{Turns}
 use Rattle.rules.specs.Traversal.{firstClass}
-use Rattle.rules.specs.Step.{TurnStart, turnsAt, Driven, Bus, dueColumn, mayGo, goesAt, going, canActivate, requestSent, drive, answered as afterAnswer}
+use Rattle.rules.specs.Step.{TurnStart, turnsAt, Driven, Bus, dueColumn, mayGo, goesAt, going, canActivate, drive, answered as afterAnswer}
 use Rattle.rules.specs.Wire.{gapMet, gapsMet, offsetAllows}
 use Rattle.rules.specs.History.{Activates}
 use Rattle.rules.specs.Call.{busAt, afterTick}
@@ -41,7 +41,7 @@ use Rattle.rules.specs.Guarantees.{ticksIn, atTick, TickMade, firstTick,
 use Rattle.rules.proofs.Wire.{gap-shift, gaps-rested}
 use Rattle.rules.proofs.PendingWords.{inside}
 use Rattle.rules.proofs.Step.{drive-column, drive-nothing, drive-activate}
-use Rattle.rules.proofs.Range.{FlightRange, ranged, BusRange, bus-range, goes-waits, waiting-sound, going-sound, sound-offer, sound-kind}
+use Rattle.rules.proofs.Range.{FlightRange, ranged, BusRange, bus-range, goes-waits, waiting-sound, request-shown, sound-kind}
 use Rattle.rules.proofs.Calls.{cut-log}
 use Rattle.rules.proofs.ListTicks.{Grown}
 use Rattle.rules.proofs.ListTurns as list
@@ -236,10 +236,6 @@ module _ (p : Policy) (given : policyInRange p ≡ true) where
           goes-there : goesAt bus < lengthOf (s .queues) (turns .owner)
           goes-there = goes-waits (p .classes) bus sound goes
 
-          sent : (d : Driven) → d ≡ requestSent bus → commandNumber (d .wires) ≡ going bus
-          unfolding commandNumber
-          sent d e = ap (λ (x : Driven). commandNumber (x .wires)) e ∙ word-back (going bus) (sound-offer (p .classes) (p .timing .ranks) (going bus) (going-sound (p .classes) bus sound goes-there))
-
           activates : ActivatedAt p ws t c
           unfolding afterTick going
           activates =
@@ -248,7 +244,8 @@ module _ (p : Policy) (given : policyInRange p ≡ true) where
                 waits = subst (λ (x : ℕ). goesAt bus < lengthOf (s .queues) x) has goes-there;
                 command =
                     ap (λ (a : Answer). a .command) (list.answered p given ws t under)
-                    ∙ sent (drive bus) (drive-activate bus none goes)
+                    ∙ ap (λ (d : Driven). commandNumber (d .wires)) (drive-activate bus none goes)
+                    ∙ request-shown (p .classes) bus sound goes
                     ∙ ap (λ (x : ℕ). waitingAt (s .queues) x (goesAt bus)) has;
               }
 

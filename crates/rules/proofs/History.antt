@@ -32,7 +32,7 @@ use Rattle.state.specs.declared.Ticked.{Ticked}
 use Rattle.rules.proofs.Lookahead.{elision}
 use Rattle.rules.proofs.Wire.{gap-shift, gap-new, gap-none, Before}
 use Rattle.requests.proofs.Word.{rank-small}
-use Rattle.rules.proofs.Range.{sound-kind, right-sound, right-class, Fits, Ranged, ranged, BusRange, bus-range, goes-waits, going-right}
+use Rattle.rules.proofs.Range.{sound-kind, right-class, Fits, Ranged, ranged, BusRange, bus-range, goes-waits, going-right, goes-sound}
 use Rattle.rules.proofs.PendingWords.{Later, each-map}
 use Rattle.rules.proofs.FlightKept.{columns-next, responses-next, activates-next}
 use Rattle.rules.proofs.TurnsKept.{turns-kept}
@@ -161,7 +161,7 @@ module _ (p : Policy) (given : policyInRange p ≡ true) where
     right e = going-right (p .classes) bus ranges (goes-waits (p .classes) bus ranges e)
 
     sound : goes → soundWord (p .classes) (p .timing .ranks) (going bus) ≡ true
-    sound e = right-sound (p .classes) (p .timing .ranks) (turns .owner) (going bus) (right e)
+    sound = goes-sound (p .classes) bus ranges
 
     -- what is activated is the owner's
     going-flows : goes → flows p (classOf (going bus)) (turns .owner) ≡ true

@@ -3,9 +3,9 @@
 -- Assumes nothing.
 use mathlib.Core.Path.{_≡_, refl, sym, ap, ap₂, _∙_, subst}
 use mathlib.Core.Logic.{_⊎_, _≢_, inl, inr, ⊎-elim}
-use mathlib.Core.Bool.{Bool, true, false, cond, _&&_, _||_}
+use mathlib.Core.Bool.{Bool, true, false, cond, _&&_}
 use mathlib.Core.List.{List, [], _∷_, _++_, append-assoc, append-nil}
-use Prim.Native.Nat.{ℕ, suc, _+_, _-_, _*_, _%_, _≤_, _<_, zero-le, suc-le-suc}
+use Prim.Native.Nat.{ℕ, suc, _+_, _-_, _≤_, _<_, zero-le, suc-le-suc}
 use native.Mathlib.Nat.{not-suc-le-zero}
 use native.Mathlib.Omega.{arith}
 use borrow.Author.Tests.{eqb-true, eqb-false, eq-eqb, lt-ltb}
@@ -19,9 +19,9 @@ use Rattle.basics.proofs.Truth.{either, false-unless, not-both, and-left, and-r
 use Rattle.basics.specs.Below.{listOf}
 use Rattle.basics.proofs.Below.{length-listOf, getD-listOf}
 use Rattle.policy.proofs.Laws.{policy-laws}
-use Rattle.requests.specs.Word.{classOf, rankOf, kindOf, bankOf, bankPlace, requestOf, wordOf, isOffer, classFits, bankKindRankFit, columnNumber, commandNumber}
+use Rattle.requests.specs.Word.{classOf, rankOf, kindOf, bankOf, bankPlace, requestOf, wordOf, isOffer, classFits, bankKindRankFit, commandNumber}
 use Rattle.requests.specs.declared.Request.{Request}
-use Rattle.requests.proofs.Word.{word-back, column-no-offer}
+use Rattle.requests.proofs.Word.{place-same, word-back}
 use Rattle.queues.specs.Waiting.{lengthOf, passedOf, waitingAt, waiting}
 use Rattle.queues.specs.declared.Queues.{Queues}
 use Rattle.flight.specs.Flight.{dueAt}
@@ -30,13 +30,13 @@ use Rattle.state.specs.Range.{inRange}
 use Rattle.state.specs.declared.State.{State}
 use Rattle.rules.specs.Queue.{enqueue, passedAfter, offerStatus, queuesAfter}
 use Rattle.rules.specs.Wire.{gapsMetBy, gapsMet}
-use Rattle.rules.specs.Step.{turnsAt, TurnStart, Driven, Bus, dueColumn, mayGo, goesAt, going, canActivate, columnSent, requestSent, nothingSent, drive, answered}
+use Rattle.rules.specs.Step.{turnsAt, TurnStart, Driven, Bus, mayGo, goesAt, going, canActivate, columnSent, requestSent, nothingSent, drive, answered}
 use Rattle.rules.specs.Call.{offerOn, busAt, afterTick, silent}
 use Rattle.rules.specs.Calls.{Answer, offered, answerTo, stateAfter, logOf}
 use Rattle.rules.specs.Overtaking.{onlyIf, those, ofClass, ofStream, takenOffers, commandsIn, activations, Overtaking}
 use Rattle.rules.proofs.Queue.{enqueue-passed, enqueue-end, enqueue-beside, dequeue-closes, dequeue-beside, dequeue-passed, dequeue-else-passed}
 use Rattle.rules.proofs.Step.{outcome}
-use Rattle.rules.proofs.Range.{ranged, small-classes, right-class, sound-offer, BusRange, goes-waits, goes-first, goes-past, going-right, going-sound, due-offer}
+use Rattle.rules.proofs.Range.{ranged, small-classes, right-class, sound-offer, BusRange, goes-waits, goes-first, goes-past, going-right, goes-sound, goes-met, request-shown, column-no-request}
 use Rattle.rules.proofs.CallsKept.{below-sixteen, room, taken, tick-bus, zero-at, fresh-fits}
 use Rattle.rules.proofs.SingleCalls.{any-call}
 use Rattle.rules.proofs.Calls.{answered-in-range, after-in-range}
@@ -223,14 +223,14 @@ module _ (p : Policy) (c : ℕ) (small : c < 16) (s : State) (fits : inRange p s
     there = goes-waits (p .classes) bus range goes
 
     offers : isOffer (going bus) ≡ true
-    offers = sound-offer (p .classes) (p .timing .ranks) (going bus) (going-sound (p .classes) bus range there)
+    offers = sound-offer (p .classes) (p .timing .ranks) (going bus) (goes-sound (p .classes) bus range goes)
 
     -- of requests with one rank, one bank and one kind the gaps are met together
     together : (j : ℕ) → rankOf (waitingAt q owner j) ≡ rankOf (going bus) → bankOf (waitingAt q owner j) ≡ bankOf (going bus) → kindOf (waitingAt q owner j) ≡ kindOf (going bus)
         → gapsMet (p .timing) (s .flight) (waitingAt q owner j) (s .cycle) ≡ gapsMet (p .timing) (s .flight) (going bus) (s .cycle)
-    unfolding gapsMet bankPlace
+    unfolding gapsMet
     together j rank bank kind =
-        ap₂ (λ (r b : ℕ). gapsMetBy (p .timing) (s .flight .last) (getD (s .flight .banks) (8 * r + b % 8) 0) r (kindOf (waitingAt q owner j)) (s .cycle)) rank bank
+        ap₂ (λ (r at : ℕ). gapsMetBy (p .timing) (s .flight .last) (getD (s .flight .banks) at 0) r (kindOf (waitingAt q owner j)) (s .cycle)) rank (place-same (waitingAt q owner j) (going bus) rank bank)
         ∙ ap (λ (k : ℕ). gapsMetBy (p .timing) (s .flight .last) (getD (s .flight .banks) (bankPlace (going bus)) 0) (rankOf (going bus)) k (s .cycle)) kind
 
     -- so none older with the rank, bank and kind of the one that goes waits: it would go
@@ -240,13 +240,11 @@ module _ (p : Policy) (c : ℕ) (small : c < 16) (s : State) (fits : inRange p s
         let k = goesAt bus in
         let first = goes-first (p .classes) bus range goes in
         let few = goes-past (p .classes) bus range goes (λ e. not-suc-le-zero {n = j} (subst (λ (n : ℕ). j < n) e older)) in
-        let met = and-right (eqb k 0 || ltb (passedOf q owner) 15) (gapsMet (p .timing) (s .flight) (going bus) (s .cycle)) (first .passes) in
-        not-both (and-both (or-right (eqb j 0) (ltb (passedOf q owner) 15) (lt-ltb (passedOf q owner) 15 few)) (together j rank bank kind ∙ met)) (first .fails-before j older)
+        not-both (and-both (or-right (eqb j 0) (ltb (passedOf q owner) 15) (lt-ltb (passedOf q owner) 15 few)) (together j rank bank kind ∙ goes-met (p .classes) bus range goes)) (first .fails-before j older)
 
     -- the command is its word
     sent : commandNumber (requestSent bus .wires) ≡ going bus
-    unfolding commandNumber
-    sent = word-back (going bus) offers
+    sent = request-shown (p .classes) bus range goes
 
     class-sent : classOf (commandNumber (requestSent bus .wires)) ≡ owner
     class-sent = ap classOf sent ∙ right-class (p .classes) (p .timing .ranks) owner (going bus) (going-right (p .classes) bus range there)
@@ -286,10 +284,7 @@ module _ (p : Policy) (c : ℕ) (small : c < 16) (s : State) (fits : inRange p s
   unfolding commandNumber
   tick-seen =
       outcome bus (λ d. Seen p c s 0 (answers d))
-      (λ due.
-      let word = dueColumn bus in
-      let offer = due-offer (p .classes) bus range (eqb-false word 0 due) in
-      inl (still p c s 0 (answers (columnSent bus)) refl (ap (λ (x : ℕ). isOffer (columnNumber x)) (word-back word offer) ∙ column-no-offer word offer) (no-offer 0)))
+      (λ due. inl (still p c s 0 (answers (columnSent bus)) refl (column-no-request (p .classes) bus range due) (no-offer 0)))
       (λ due goes.
       ⊎-elim
       (λ its. inr (subst (λ (k : ℕ). Goes p k s 0 (answers (requestSent bus))) (eqb-true owner c its) (owner-goes goes)))

@@ -3,12 +3,12 @@
 -- Assumes nothing.
 use mathlib.Core.Path.{_≡_, sym, ap, _∙_, subst}
 use mathlib.Core.Logic.{inl, inr, ⊎-elim}
-use mathlib.Core.Bool.{Bool, true, _&&_, _||_}
+use mathlib.Core.Bool.{Bool, true, false, _&&_, _||_}
 use mathlib.Core.List.{List}
 use Prim.Native.Nat.{ℕ, _+_, _≤_, _<_}
 use native.Mathlib.Nat.{lt-of-lt-of-le}
 use native.Mathlib.Omega.{arith}
-use borrow.Author.Tests.{eqb-true, eq-eqb, leb-true, le-leb, lt-leb, ltb-true, lt-ltb}
+use borrow.Author.Tests.{eqb-true, eqb-false, eq-eqb, leb-true, le-leb, lt-leb, ltb-true, lt-ltb}
 use lib.Dec.{leb, ltb, eqb, lit<}
 use lib.ListN.{length, getD}
 use Rattle.policy.specs.Laws.{TimingLaws}
@@ -21,15 +21,16 @@ use Rattle.basics.proofs.Truth.{not-both, and-left, and-right, and-three, and-b
 use Rattle.basics.specs.Below.{first}
 use Rattle.basics.proofs.Below.{lt-or-ge, every-at, every-all, First, first-found, first-some}
 use Rattle.policy.proofs.Laws.{policy-laws}
-use Rattle.requests.specs.Word.{classOf, rankOf, kindOf, bankOf, requestOf, isOffer, classFits, bankKindRankFit, soundWord}
+use Rattle.requests.specs.Word.{classOf, rankOf, kindOf, bankOf, requestOf, isOffer, classFits, bankKindRankFit, soundWord, columnNumber, commandNumber}
+use Rattle.requests.proofs.Word.{word-back, column-no-offer}
 use Rattle.queues.specs.Waiting.{headOf, lengthOf, passedOf, place, waitingAt, rightWord, ringInRange, queueInRange}
 use Rattle.flight.specs.Flight.{dueAt, activateInRange, pendingInRange, flightInRange}
-use Rattle.rules.specs.Wire.{offsetAllows}
+use Rattle.rules.specs.Wire.{gapsMet, offsetAllows}
 use Rattle.state.specs.Range.{turnsInRange, countsInRange, shaped, stateInRange, inRange}
 use Rattle.rules.specs.History.{Each, Activates}
 use Rattle.rules.specs.Ready.{Ready}
 use Rattle.requests.specs.Sizes.{lastCycle}
-use Rattle.rules.specs.Step.{Bus, dueColumn, mayGo, goesAt, going, canActivate}
+use Rattle.rules.specs.Step.{Bus, dueColumn, mayGo, goesAt, going, canActivate, columnSent, requestSent}
 use Rattle.rules.specs.Call.{busAt}
 use Rattle.requests.specs.declared.Request.{Request}
 use Rattle.queues.specs.declared.Queues.{Queues}
@@ -350,9 +351,18 @@ module _ (n : ℕ) (b : Bus) (r : BusRange n b) where
   unfolding going
   going-right some = r .queues .queue (b .owner) (r .owner-small) .right (goesAt b) some
 
-  pub going-sound : goesAt b < lengthOf (b .queues) (b .owner) → soundWord n ranks (going b) ≡ true
+  pub goes-sound : canActivate b ≡ true → soundWord n ranks (going b) ≡ true
   unfolding going
-  going-sound some = waiting-sound (goesAt b) some
+  goes-sound e = waiting-sound (goesAt b) (goes-waits e)
+
+  -- its gaps are met, and its word is the command's number
+  pub goes-met : canActivate b ≡ true → gapsMet (b .timing) (b .flight) (going b) (b .cycle) ≡ true
+  unfolding mayGo going
+  goes-met e = and-right (eqb (goesAt b) 0 || ltb (passedOf (b .queues) (b .owner)) 15) _ (goes-first e .passes)
+
+  pub request-shown : canActivate b ≡ true → commandNumber (requestSent b .wires) ≡ going b
+  unfolding commandNumber
+  request-shown e = word-back (going b) (sound-offer n ranks (going b) (goes-sound e))
 
   -- a due column's word is an offer
   pub due-offer : ((dueColumn b ≡ 0) → ⊥) → isOffer (dueColumn b) ≡ true
@@ -361,6 +371,14 @@ module _ (n : ℕ) (b : Bus) (r : BusRange n b) where
       let now : b .cycle + 0 ≡ b .cycle = omega arith in
       subst (λ (k : ℕ). isOffer (dueAt columns k) ≡ true) now
       (⊎-elim (λ none. absurd (some (ap (dueAt columns) (sym now) ∙ none))) (λ fits. sound-offer n ranks (dueAt columns (b .cycle + 0)) (fits .1)) (r .flight .columns-due 0 (lit< tt)))
+
+  -- so the command's number is that word with bit 30 set, which is no offer's
+  pub column-shown : eqb (dueColumn b) 0 ≡ false → commandNumber (columnSent b .wires) ≡ columnNumber (dueColumn b)
+  unfolding commandNumber
+  column-shown due = ap columnNumber (word-back (dueColumn b) (due-offer (eqb-false (dueColumn b) 0 due)))
+
+  pub column-no-request : eqb (dueColumn b) 0 ≡ false → isOffer (commandNumber (columnSent b .wires)) ≡ false
+  column-no-request due = ap isOffer (column-shown due) ∙ column-no-offer (dueColumn b) (due-offer (eqb-false (dueColumn b) 0 due))
 
   -- so the second step has what it rests on
   pub ready : b .cycle < lastCycle → Ready b

@@ -3,26 +3,26 @@
 -- Assumes nothing.
 use mathlib.Core.Path.{_≡_, refl, sym, ap, ap₂, _∙_, subst}
 use mathlib.Core.Logic.{_⊎_, inl, inr, ⊎-elim}
-use mathlib.Core.Bool.{Bool, true, false, cond, _&&_, _||_}
+use mathlib.Core.Bool.{Bool, true, false, cond, _&&_}
 use mathlib.Core.List.{List, [], _∷_, _++_}
 use Prim.Native.Nat.{ℕ, zero, suc, _+_, _/_, _%_, _≤_, _<_, zero-le}
 use native.Mathlib.Nat.{not-suc-le-zero}
 use native.Mathlib.Omega.{arith}
-use borrow.Author.Tests.{eqb-false, eq-eqb, ne-eqb, leb-true, le-leb, lt-ltb}
+use borrow.Author.Tests.{eq-eqb, ne-eqb, leb-true, le-leb, lt-ltb}
 use lib.Dec.{leb, ltb, eqb, lit<}
 use lib.ListN.{length, getD}
 use Rattle.policy.specs.Policy.{inRange as policyInRange}
 use Rattle.policy.specs.declared.Policy.{Policy}
 use Rattle.policy.proofs.Laws.{policy-laws}
-use Rattle.basics.proofs.Truth.{either, and-right, and-three, and-fails-left}
+use Rattle.basics.proofs.Truth.{either, and-three, and-fails-left, and-true}
 use Rattle.basics.proofs.Stores.{stored-at}
 use Rattle.requests.specs.Word.{rankOf, kindOf, bankOf, bankPlace, isOffer, requestOf, classFits, bankKindRankFit, soundWord, columnNumber, commandNumber}
-use Rattle.requests.proofs.Word.{rank-small, word-back, column-no-offer}
-use Rattle.queues.specs.Waiting.{lengthOf, passedOf, waitingAt}
+use Rattle.requests.proofs.Word.{rank-small}
+use Rattle.queues.specs.Waiting.{lengthOf, waitingAt}
 use Rattle.flight.specs.Flight.{dueAt, activateAt, activateRank}
 use Rattle.rules.specs.Queue.{offerStatus}
 use Rattle.rules.specs.Wire.{opensAt, rankOpens, rankGapMet, gapMet, kindGap, bankGap, gapsMetBy, gapsMet, activated}
-use Rattle.rules.specs.Step.{turnStarts, turnWord, turnsAt, Bus, dueColumn, mayGo, goesAt, going, canActivate, requestSent, drive, answered}
+use Rattle.rules.specs.Step.{turnStarts, turnWord, turnsAt, Bus, dueColumn, going, canActivate, requestSent, drive, answered}
 use Rattle.rules.specs.Call.{offerOn, busAt, afterTick, silent}
 use Rattle.rules.specs.Calls.{Answer, answerTo, stateAfter, logOf}
 use Rattle.rules.specs.Overtaking.{onlyIf, those, commandsIn, activations}
@@ -32,7 +32,7 @@ use Rattle.state.specs.Range.{inRange}
 use Rattle.state.specs.declared.State.{State}
 use Rattle.rules.proofs.Wire.{next-new, rank-new, some-new}
 use Rattle.rules.proofs.Step.{turn-shown, outcome}
-use Rattle.rules.proofs.Range.{sound-offer, sound-bank, sound-kind, sound-rank, right-sound, ranged, BusRange, goes-waits, goes-first, going-sound, due-offer}
+use Rattle.rules.proofs.Range.{sound-offer, sound-bank, sound-kind, sound-rank, right-sound, ranged, BusRange, goes-sound, goes-met, request-shown, column-shown, column-no-request}
 use Rattle.rules.proofs.CallsKept.{tick-bus, fresh-fits}
 use Rattle.rules.proofs.SingleCalls.{any-call}
 use Rattle.rules.proofs.Calls.{answered-in-range, after-in-range}
@@ -60,33 +60,26 @@ module _ (p : Policy) (s : State) where
     counts : a .state .cycle ≡ s .cycle + cond (eqb w 0 && eqb (a .status) 0) 1 0
     moves : Either (a .command) (a .state .flight .last)
 
-  module _ (fits : inRange p s ≡ true) where
-    abbrev bus : Bus
-    bus = busAt p s (turnsAt p (s .cycle) (s .queues .lengths) (s .turns) .turns)
+  abbrev bus : Bus
+  bus = busAt p s (turnsAt p (s .cycle) (s .queues .lengths) (s .turns) .turns)
 
+  module _ (fits : inRange p s ≡ true) where
     range : BusRange (p .classes) bus
     range = tick-bus p s (ranged p s fits)
 
-    sound : canActivate bus ≡ true → soundWord (p .classes) (p .timing .ranks) (going bus) ≡ true
-    sound goes = going-sound (p .classes) bus range (goes-waits (p .classes) bus range goes)
-
     -- the one that goes has its rank gap met
     gap-met : canActivate bus ≡ true → rankOpens (p .timing) (s .flight .last) (rankOf (going bus)) ≤ s .cycle + 1
-    unfolding mayGo going gapsMet gapsMetBy rankGapMet
+    unfolding gapsMet gapsMetBy rankGapMet
     gap-met goes =
-        let met = and-right (eqb (goesAt bus) 0 || ltb (passedOf (s .queues) (bus .owner)) 15) (gapsMet (p .timing) (s .flight) (going bus) (s .cycle)) (goes-first (p .classes) bus range goes .passes) in
-        leb-true _ (s .cycle + 1) (and-three (gapMet _ _ (s .cycle)) (rankGapMet (p .timing) (s .flight .last) (rankOf (going bus)) (s .cycle)) (gapMet _ _ (s .cycle)) met .1)
-
-    sent : (goes : canActivate bus ≡ true) → commandNumber (requestSent bus .wires) ≡ going bus
-    unfolding commandNumber
-    sent goes = word-back (going bus) (sound-offer (p .classes) (p .timing .ranks) (going bus) (sound goes))
+        leb-true _ (s .cycle + 1) (and-three (gapMet _ _ (s .cycle)) (rankGapMet (p .timing) (s .flight .last) (rankOf (going bus)) (s .cycle)) (gapMet _ _ (s .cycle)) (goes-met (p .classes) bus range goes) .1)
 
     sends : canActivate bus ≡ true → Sends (going bus) (requestSent bus .flight .last)
     unfolding activated
     sends goes =
+        let sound = goes-sound (p .classes) bus range goes in
         record {
-          offer = sound-offer (p .classes) (p .timing .ranks) (going bus) (sound goes);
-          kind = sound-kind (p .classes) (p .timing .ranks) (going bus) (sound goes);
+          offer = sound-offer (p .classes) (p .timing .ranks) (going bus) sound;
+          kind = sound-kind (p .classes) (p .timing .ranks) (going bus) sound;
           met = gap-met goes;
           new = refl;
         }
@@ -95,11 +88,8 @@ module _ (p : Policy) (s : State) where
     unfolding commandNumber
     driven =
         outcome bus (λ d. Either (commandNumber (d .wires)) (d .flight .last))
-        (λ due.
-        let word = dueColumn bus in
-        let offer = due-offer (p .classes) bus range (eqb-false word 0 due) in
-        inl (ap (λ (x : ℕ). isOffer (columnNumber x)) (word-back word offer) ∙ column-no-offer word offer, refl))
-        (λ due goes. inr (subst (λ (x : ℕ). Sends x (requestSent bus .flight .last)) (sym (sent goes)) (sends goes)))
+        (λ due. inl (column-no-request (p .classes) bus range due, refl))
+        (λ due goes. inr (subst (λ (x : ℕ). Sends x (requestSent bus .flight .last)) (sym (request-shown (p .classes) bus range goes)) (sends goes)))
         (λ due stays. inl (zero-no-offer, refl))
 
     one-call : (w : ℕ) → Moves w (answerTo p s w)
@@ -168,11 +158,6 @@ module _ (p : Policy) where
 
 -- ---- one rank
 
--- a test that passes need not be asked
-and-true : (b : Bool) → (b && true) ≡ b
-and-true true = refl
-and-true false = refl
-
 -- a number below bit 22 has both bits 0
 low-bits : (x : ℕ) → x < 4194304 → rankOf x ≡ 0
 unfolding rankOf
@@ -213,8 +198,8 @@ module _ (p : Policy) (one : p .timing .ranks ≡ 1) where
   none = low-bits 0 (lit< tt)
 
   module _ (s : State) (fits : inRange p s ≡ true) where
-    going-zero : canActivate (bus p s fits) ≡ true → rankOf (going (bus p s fits)) ≡ 0
-    going-zero goes = on-zero (going (bus p s fits)) (sound p s fits goes)
+    going-zero : canActivate (bus p s) ≡ true → rankOf (going (bus p s)) ≡ 0
+    going-zero goes = on-zero (going (bus p s)) (goes-sound (p .classes) (bus p s) (range p s fits) goes)
 
     -- what is due is a sound word, or none
     due-zero : (bound : ℕ) (pending : List ℕ) → ((dueAt pending (s .cycle + 0) ≡ 0) ⊎ ((0 < bound) × (soundWord (p .classes) (p .timing .ranks) (dueAt pending (s .cycle + 0)) ≡ true))) → rankOf (dueAt pending (s .cycle)) ≡ 0
@@ -222,23 +207,22 @@ module _ (p : Policy) (one : p .timing .ranks ≡ 1) where
         let now : s .cycle + 0 ≡ s .cycle = omega arith in
         subst (λ (t : ℕ). rankOf (dueAt pending t) ≡ 0) now (⊎-elim (λ e. ap rankOf e ∙ none) (λ some. on-zero (dueAt pending (s .cycle + 0)) (some .1)) due)
 
-    command-zero : rankOf (commandNumber (drive (bus p s fits) .wires)) ≡ 0
+    command-zero : rankOf (commandNumber (drive (bus p s) .wires)) ≡ 0
     unfolding commandNumber
     command-zero =
-        let b = bus p s fits in
+        let b = bus p s in
         outcome b (λ d. rankOf (commandNumber (d .wires)) ≡ 0)
         (λ due.
-        let word = dueColumn b in
-        ap (λ (x : ℕ). rankOf (columnNumber x)) (word-back word (due-offer (p .classes) b (range p s fits) (eqb-false word 0 due)))
-        ∙ column-rank word
+        ap rankOf (column-shown (p .classes) b (range p s fits) due)
+        ∙ column-rank (dueColumn b)
         ∙ due-zero (p .timing .column) (s .flight .columns) (range p s fits .flight .columns-due 0 (lit< tt)))
-        (λ due goes. ap rankOf (sent p s fits goes) ∙ going-zero goes)
+        (λ due goes. ap rankOf (request-shown (p .classes) b (range p s fits) goes) ∙ going-zero goes)
         (λ due stays. none)
 
-    response-zero : rankOf (dueAt (drive (bus p s fits) .flight .responses) (s .cycle)) ≡ 0
+    response-zero : rankOf (dueAt (drive (bus p s) .flight .responses) (s .cycle)) ≡ 0
     unfolding activated dueAt
     response-zero =
-        let b = bus p s fits in
+        let b = bus p s in
         let flight = range p s fits .flight in
         let old = due-zero (p .timing .response) (s .flight .responses) (flight .responses-due 0 (lit< tt)) in
         outcome b (λ d. rankOf (dueAt (d .flight .responses) (s .cycle)) ≡ 0) (λ due. old)

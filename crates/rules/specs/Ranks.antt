@@ -42,7 +42,8 @@ gapsBefore p f w t =
     let ofBank = getD (f .banks) (bankOf w) 0 in
     gapMet (f .last) (kindGap (p .timing) (f .last) (kindOf w)) t && gapMet ofBank (bankGap (p .timing) ofBank) t
 
--- the k-th request from the oldest that waits in a class's queue after a list of calls is on the rank of the last activate of all, so that the rank gap is not asked of the two; its gaps are document 01's, at every cycle; and where it is activated, that is stored as its bank's last activate by the bank's number
+-- the k-th request from the oldest that waits in a class's queue after a list of calls is on the rank of the last activate of all, so that the rank gap is not asked of the two; its gaps are document 01's, at every
+-- cycle; and where it is activated, that is stored as its bank's last activate by the bank's number
 pub record GapsAsBefore (p : Policy) (s : State) (c k : ℕ) : Type 0 where
   pub not-asked : rankOpens (p .timing) (s .flight .last) (rankOf (waitingAt (s .queues) c k)) ≡ 0
   pub same-gaps : (t : ℕ) → gapsMet (p .timing) (s .flight) (waitingAt (s .queues) c k) t ≡ gapsBefore p (s .flight) (waitingAt (s .queues) c k) t

@@ -17,14 +17,14 @@ activate-rank-requires c κs = search needs
 returns : tie.Need-returns
 unfolding rankOpens
 returns c =
-    let a = c .before .before .before .args in
+    let a = c .before .before .args in
     rw (eq-eqb (activateRank (a .last)) (a .rank) (sym (c .before .activate-rank .ensures) ∙ c .if1 .taken))
 
 returns-2 : tie.Need-returns-2
 unfolding rankOpens
 returns-2 c =
     let a = c .before .before .before .args in
-    rw (ne-eqb (activateRank (a .last)) (a .rank) (λ e. c .if1 .left (c .before .activate-rank .ensures ∙ e))) (c .before .before .opens-at .ensures)
+    rw (ne-eqb (activateRank (a .last)) (a .rank) (λ e. c .before .if1 .left (c .before .before .activate-rank .ensures ∙ e))) (c .opens-at .ensures)
 
 pub rank-opens-spec : {M : Type 1} → statement M
-rank-opens-spec = tie.close (tie.spec opens-at-requires activate-rank-requires returns returns-2)
+rank-opens-spec = tie.close (tie.spec activate-rank-requires opens-at-requires returns returns-2)

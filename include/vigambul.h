@@ -28,13 +28,15 @@
 /* Of a command's word: 1 if it is a column command, 0 if it is an activate or none. */
 #define VIGAMBUL_IS_COLUMN(word) (((uint32_t)(word) >> 30) & UINT32_C(1))
 
-/* Of a turn number, the fourth of a line: 1 if a turn starts there; then its owner, and 1 if the owner's dead time is dropped. (Of a turn number of 0 there is no owner. In an extract
- * 512 is a turn whose owner the class may not see: VIGAMBUL_TURN_HIDDEN.)
+/* Of a turn number, the fourth of a line: 1 if a turn starts there; then its owner, 1 if the owner's dead time is dropped, and how many classes the walk tried, the owner counted, in
+ * bits 16 to 20: 1 to 16, and never above vigambul_walk_bound of the walk's first class. (Of a turn number of 0 there is no owner and no walk. In an extract 512 is a turn whose owner
+ * the class may not see: VIGAMBUL_TURN_HIDDEN. It does not say how many classes were tried: VIGAMBUL_TURN_TRIED of it is 0.)
  */
 #define VIGAMBUL_TURN_HIDDEN UINT32_C(512)
 #define VIGAMBUL_TURN_STARTS(turn) ((uint32_t)((uint32_t)(turn) != UINT32_C(0)))
 #define VIGAMBUL_TURN_OWNER(turn) ((((uint32_t)(turn)) & UINT32_C(255)) - UINT32_C(1))
 #define VIGAMBUL_TURN_DROPPED(turn) (((uint32_t)(turn) >> 8) & UINT32_C(1))
+#define VIGAMBUL_TURN_TRIED(turn) (((uint32_t)(turn) >> 16) & UINT32_C(31))
 
 /* What is turned down, by document 01's numbers. */
 enum vigambul_refusal {
@@ -84,6 +86,13 @@ size_t vigambul_extract(const uint8_t *policy, size_t policy_len, uint32_t class
                         const uint32_t *trace, size_t trace_len,
                         const uint32_t *log, size_t log_len,
                         uint32_t *out, size_t out_len, uint32_t *status);
+
+/* Reads the policy file's bytes, and answers how many classes a walk that starts at class_ tries at most, class_ counted: the number of classes on the longest rising chain from it,
+ * 1 to 16. The greatest of these is that of the least class: so many classes hardware must be able to try in one cycle.
+ *
+ * Puts into status 0; or 1 to 8, the number that refuses the file; or 9, if class_ is none of the policy's classes. Where status is anything but 0, the answer is 0.
+ */
+uint32_t vigambul_walk_bound(const uint8_t *policy, size_t policy_len, uint32_t class_, uint32_t *status);
 
 #ifdef __cplusplus
 }

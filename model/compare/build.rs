@@ -1,4 +1,4 @@
-//! Links the static library with `vigambul_run` and `vigambul_extract`.
+//! Links the static library with `vigambul_run`, `vigambul_extract` and `vigambul_walk_bound`.
 
 use std::path::{Path, PathBuf};
 use std::process::exit;

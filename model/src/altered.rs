@@ -8,7 +8,7 @@ use crate::leaks::{Outcome, Performed};
 use crate::pairs::Pair;
 use crate::refusal::Refusal;
 use crate::state::ClassState;
-use crate::trace::{class_bits, Word, ELIDED, LINE};
+use crate::trace::{class_bits, Word, ELIDED, LINE, TRIED_SHIFT};
 
 /// What is changed in the outcome of one of a pair's lists.
 #[derive(Clone, Copy, Debug, Default, PartialEq, Eq)]
@@ -29,6 +29,8 @@ pub enum Altered {
     Answer,
     /// Whether the dead time of such a class's turn is dropped.
     SeenTurn,
+    /// How many classes the walk of such a turn tried.
+    SeenWalk,
     /// A turn of another class: its start is missing.
     HiddenTurn,
     /// A number past the extract's count was written.
@@ -50,7 +52,8 @@ pub enum Altered {
     /// How many requests have passed such a class's oldest.
     Passed,
     /// Whatever L may not see: queues, turns left, marks, counts and commands of other
-    /// classes, the owner and what is in flight. No comparison may tell.
+    /// classes, the walks of their turns, the owner and what is in flight. No comparison may
+    /// tell.
     HiddenParts,
 }
 
@@ -58,6 +61,11 @@ pub enum Altered {
 fn one_of<T: Copy>(places: &[T], seed: u64) -> Option<T> {
     let place = seed.checked_rem(places.len() as u64)?;
     places.get(place as usize).copied()
+}
+
+/// Whether L may see the owner of a turn number other than 0.
+fn sees_owner(pair: &Pair, turn: u32) -> bool {
+    pair.sees(((turn & 0xFF) as usize).wrapping_sub(1))
 }
 
 impl Altered {
@@ -98,6 +106,9 @@ impl Altered {
                             *word = 0;
                         }
                     }
+                    if line[3] != 0 && !sees_owner(pair, line[3]) {
+                        line[3] ^= 1 << TRIED_SHIFT;
+                    }
                 }
             }
             _ => return None,
@@ -107,7 +118,6 @@ impl Altered {
 
     fn change_log(self, pair: &Pair, side: usize, seed: u64, done: &mut Performed) -> Option<()> {
         let seen_word = |word: u32| word != 0 && pair.sees(usize::from(class_bits(word)));
-        let seen_turn = |turn: u32| pair.sees(((turn & 0xFF) as usize).wrapping_sub(1));
         let list = &pair.lists[side];
         let fits = |place: usize| {
             let line = &done.log[LINE * place..][..LINE];
@@ -116,8 +126,8 @@ impl Altered {
                 Altered::Status => is_kept(&pair.policy, pair.class, list[place]),
                 Altered::Command => tick && seen_word(line[1]),
                 Altered::Answer => tick && seen_word(line[2]),
-                Altered::SeenTurn => line[3] != 0 && seen_turn(line[3]),
-                Altered::HiddenTurn => line[3] != 0 && !seen_turn(line[3]),
+                Altered::SeenTurn | Altered::SeenWalk => line[3] != 0 && sees_owner(pair, line[3]),
+                Altered::HiddenTurn => line[3] != 0 && !sees_owner(pair, line[3]),
                 _ => false,
             }
         };
@@ -128,6 +138,7 @@ impl Altered {
             Altered::Command => line[1] ^= 1,
             Altered::Answer => line[2] ^= 1,
             Altered::SeenTurn => line[3] ^= ELIDED,
+            Altered::SeenWalk => line[3] ^= 1 << TRIED_SHIFT,
             _ => line[3] = 0,
         }
         Some(())

@@ -12,9 +12,10 @@ use crate::refusal::Refusal;
 use crate::state::{self, ranks, Kind, Request, State, MOST_PASSES, QUEUE_LIMIT, RANKS};
 use crate::tick::{
     bank_gap_met, gap_of_all_met, gaps_met, offer_in_range, offset, rank_gap_met, tick_in_range,
-    turn_number, TickRecord, Wires,
+    turn_number, TickRecord, Turn, Wires,
 };
 use crate::trace::{Word, OFFER_BIT, STRAY_BITS};
+use crate::walk::longest_chain;
 
 /// The refusals that a folder can give. 12 needs 16,777,215 ticks, and 13 and
 /// 15 to 17 need calls that the program does not make.
@@ -24,7 +25,7 @@ const REFUSALS: [u32; 12] = [1, 2, 3, 4, 5, 6, 7, 8, 9, 10, 11, 14];
 const FAIR: u64 = 5;
 
 /// Everything else that is counted.
-const CASES: [&str; 94] = [
+const CASES: [&str; 102] = [
     "file under 17 bytes",
     "file above 65,535 bytes",
     "least class not 0",
@@ -122,6 +123,15 @@ const CASES: [&str; 94] = [
     "the oldest is passed for its rank alone",
     "one bank number on two ranks back to back, closer than the same-bank gap",
     "a bank again, after others of its number on other ranks",
+    // W-212, by the longest rising chain from the walk's first class.
+    "walks as long as the longest chain",
+    "walks of two classes or more as long as the longest chain",
+    "walks shorter than the longest chain",
+    "walks shorter than the longest chain, to a class with nothing above",
+    "walks of two classes or more from a home class",
+    "walks of two classes or more from a home class that is not the least",
+    "walks of two classes or more to a class with others above",
+    "walks of two classes or more from a least class that is not 0",
 ];
 
 /// How often each case was met.
@@ -154,6 +164,7 @@ impl Coverage {
             .chain(STRAY_BITS.iter().map(|&bit| stray_bit_name(bit)))
             .chain((16..32).map(high_class_name))
             .chain((0..RANKS).map(rank_name))
+            .chain((1..=MOST_CLASSES as u32).map(walk_name))
             .chain(neighbours().map(|(seen, hidden)| neighbours_name(seen, hidden)))
             .chain(CASES.iter().map(|name| name.to_string()))
             .map(|name| (name, Count { met: 0, needed: 1 }));
@@ -302,7 +313,8 @@ impl Coverage {
                         if let Wires::Activate(request) = record.wires {
                             self.add_rank(policy, &before, &request);
                         }
-                        if record.turn.is_some() {
+                        if let Some(turn) = record.turn {
+                            self.add_walk(policy, before.cycle, turn);
                             self.add_counts(&before, state.owner);
                             self.add_marks(policy, &before, state, taken);
                             self.add_home_turn(policy, &before, state);
@@ -584,6 +596,45 @@ impl Coverage {
         }
     }
 
+    /// Counts a walk by how many classes it tried.
+    fn add_walk(&mut self, policy: &Policy, cycle: u32, turn: Turn) {
+        let tried = turn.tried;
+        self.met(&walk_name(tried));
+        let home = policy.home(turn_number(policy, cycle));
+        let least = policy.least();
+        let bound = longest_chain(policy, home.unwrap_or(least));
+        let others_above = !policy.covers_of(turn.owner).is_empty();
+        self.met_if(tried == bound, "walks as long as the longest chain");
+        self.met_if(tried < bound, "walks shorter than the longest chain");
+        self.met_if(
+            tried < bound && !others_above,
+            "walks shorter than the longest chain, to a class with nothing above",
+        );
+        if tried < 2 {
+            return;
+        }
+        self.met_if(
+            tried == bound,
+            "walks of two classes or more as long as the longest chain",
+        );
+        self.met_if(
+            home.is_some(),
+            "walks of two classes or more from a home class",
+        );
+        self.met_if(
+            home.is_some_and(|home| home != least),
+            "walks of two classes or more from a home class that is not the least",
+        );
+        self.met_if(
+            others_above,
+            "walks of two classes or more to a class with others above",
+        );
+        self.met_if(
+            home.is_none() && least != 0,
+            "walks of two classes or more from a least class that is not 0",
+        );
+    }
+
     /// Counts a home turn by the states before its first tick and after it.
     fn add_home_turn(&mut self, policy: &Policy, before: &State, state: &State) {
         let turn = turn_number(policy, before.cycle);
@@ -794,6 +845,11 @@ fn neighbours_name(seen: usize, hidden: usize) -> String {
 /// An activate of a file with a rank gap.
 fn rank_name(rank: usize) -> String {
     format!("activates on rank {rank}")
+}
+
+/// A walk that tries so many classes.
+fn walk_name(tried: u32) -> String {
+    format!("walks of {tried:02} classes")
 }
 
 /// An offer of a class that no policy has, but sound apart from it.

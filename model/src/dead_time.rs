@@ -146,5 +146,5 @@ fn next_owner_by_now(policy: &Policy, state: &State, turn: u32) -> usize {
     if turns_left_before_next(policy, turn) == TurnsLeft::AtTheCaps {
         set_to_caps(policy, &mut next);
     }
-    walk(policy, &mut next, turn + 1, Planted::Nothing)
+    walk(policy, &mut next, turn + 1, Planted::Nothing).owner
 }

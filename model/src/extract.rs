@@ -3,7 +3,7 @@
 use crate::planted::Planted;
 use crate::policy::Policy;
 use crate::refusal::Refusal;
-use crate::trace::{class_bits, Word, LINE};
+use crate::trace::{class_bits, Word, LINE, TRIED_BITS};
 
 /// "such an owner's turn number becomes 512"
 pub const HIDDEN_TURN: u32 = 512;
@@ -128,13 +128,15 @@ fn shown_word(policy: &Policy, class: usize, word: u32, planted: Planted) -> u32
 
 /// "such an owner's turn number becomes 512; a turn number of 0 stays 0. The
 /// owner is the turn number's low 8 bits less 1; a nonzero turn number that so
-/// names no class below n becomes 512 too."
+/// names no class below n becomes 512 too." W-212: "Extracts still show 512 for a turn that is
+/// not theirs"; one that is theirs they show whole.
 fn shown_turn(policy: &Policy, class: usize, turn: u32, planted: Planted) -> u32 {
     let owner = ((turn & 0xFF) as usize).checked_sub(1);
     let seen = owner.is_some_and(|owner| is_seen(policy, class, owner, planted));
-    if turn == 0 || seen {
-        turn
-    } else {
-        HIDDEN_TURN
+    match planted {
+        _ if turn == 0 || seen => turn,
+        // Not a rule: a leak that tests plant.
+        Planted::HiddenTurnsShowTried => HIDDEN_TURN | turn & TRIED_BITS,
+        _ => HIDDEN_TURN,
     }
 }

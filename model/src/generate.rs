@@ -17,15 +17,19 @@ pub struct Folder {
 }
 
 /// A folder made from a seed. One policy in four is damaged on purpose, and each
-/// kind of damage has its turn; some others are damaged by chance.
+/// kind of damage has its turn; some others are damaged by chance. One folder in sixteen is
+/// made for long walks.
 pub fn folder(seed: u64) -> Folder {
     let random = &mut Random::new(seed);
     let damage = (seed % 4 == 0).then(|| &DAMAGES[(seed / 4) as usize % DAMAGES.len()]);
+    let long_walks = seed % 16 == 3;
     let policy = match damage {
         Some(damage) => (damage.file)(random),
+        None if long_walks => long_walks_fields(random).encode(),
         None => policy_file(random),
     };
     let trace = match policy::read(&policy) {
+        (policy, None) if long_walks => long_walks_trace(random, &policy),
         (policy, None) => trace_numbers(random, &policy),
         // The program does not look at it; it must be there all the same.
         (_, Some(_)) => (0..random.below(8)).map(|_| random.next() as u32).collect(),
@@ -180,6 +184,39 @@ pub(crate) fn sound_rows(random: &mut Random, n: usize) -> Vec<u16> {
             }
         }
     }
+    numbered_anew(random, &flows)
+}
+
+/// A policy of many classes for W-212's walks: they are in a row, or some stand aside, so that
+/// ways of different lengths lead up. Turns are short: a trace has many of them.
+fn long_walks_fields(random: &mut Random) -> PolicyFields {
+    let n = random.between(10, MOST_CLASSES + 6).min(MOST_CLASSES);
+    let aside = *random.pick(&[0, 0, 15, 40]);
+    // Place 0 is the least class. Any other is directly above the one before it or, if it
+    // stands aside, above any before that.
+    let mut flows = vec![vec![false; n]; n];
+    for upper in 0..n {
+        flows[upper][upper] = true;
+        let Some(before) = upper.checked_sub(1) else {
+            continue;
+        };
+        let below = match random.percent(aside) {
+            true => random.below(upper),
+            false => before,
+        };
+        (0..n).for_each(|lower| flows[lower][upper] |= flows[lower][below]);
+    }
+    let rows = numbered_anew(random, &flows);
+    let (epoch, minimums) = sound_turns(random, &rows);
+    let mut timing = sound_timing(random);
+    timing[0] = timing[1] + random.between(1, 4) as u8;
+    let fields = PolicyFields::new(&rows, epoch, &minimums, timing);
+    with_rank_gap_at_times(random, fields)
+}
+
+/// The rows of an order by places, with any class number for each place.
+fn numbered_anew(random: &mut Random, flows: &[Vec<bool>]) -> Vec<u16> {
+    let n = flows.len();
     let mut class_of: Vec<usize> = (0..n).collect();
     random.shuffle(&mut class_of);
     let mut rows = vec![0; n];
@@ -710,6 +747,22 @@ fn trace_numbers(random: &mut Random, policy: &Policy) -> Vec<u32> {
         _ => random.between(1, 400),
     };
     stretches(random, policy, |writer| writer.numbers.len() >= length)
+}
+
+/// A trace in which, as a turn starts, mostly one class waits or none: the walk passes all that
+/// are below it.
+fn long_walks_trace(random: &mut Random, policy: &Policy) -> Vec<u32> {
+    let turn_length = usize::from(policy.timing.turn_length);
+    let mut numbers = Vec::new();
+    for _ in 0..random.between(10, 60) {
+        for _ in 0..*random.pick(&[0, 1, 1, 1, 1, 2]) {
+            let class = random.below(policy.class_count()) as u8;
+            let rank = random.aside().below(ranks(policy));
+            numbers.push(on_rank(sound_offer(random, class, BANKS), rank));
+        }
+        numbers.extend(vec![0; turn_length]);
+    }
+    numbers
 }
 
 /// So many cycles are not too long.

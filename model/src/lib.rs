@@ -9,7 +9,7 @@
 //! | Masks of W-205                     | [`masks`]               |
 //! | A tick: fresh states, range checks | [`state`]               |
 //! | A tick: ticks and offers           | [`tick`]                |
-//! | The walk                           | [`walk`]                |
+//! | The walk, and how long one can be  | [`walk`]                |
 //! | Dead time                          | [`dead_time`]           |
 //! | Trace and log                      | [`trace`]               |
 //! | The extract                        | [`extract`]             |

@@ -10,12 +10,13 @@ use crate::reader::Reader;
 use crate::refusal::Refusal;
 use crate::state::{Request, MOST_PASSES};
 use crate::tick::turn_number;
-use crate::trace::{Word, COLUMN_BIT, ELIDED, LINE, OFFER_BIT};
+use crate::trace::{tried, Word, COLUMN_BIT, ELIDED, LINE, OFFER_BIT};
+use crate::walk::longest_chain;
 
 /// What is counted, and how much of it so many pairs must have met.
 type Counted = (&'static str, fn(u64) -> u64);
 
-const COUNTED: [Counted; 51] = [
+const COUNTED: [Counted; 60] = [
     ("pairs compared", |pairs| pairs),
     ("pairs of different lists", |pairs| pairs / 2),
     ("pairs with lists of different lengths", |pairs| pairs / 2),
@@ -86,6 +87,24 @@ const COUNTED: [Counted; 51] = [
     ("offers seen that 10 refuses for their rank", |pairs| {
         pairs / 20
     }),
+    // W-212, in the log, of turns that L may see and of others.
+    ("walks of two classes or more, seen", |pairs| pairs),
+    ("walks of two classes or more, hidden", |pairs| pairs),
+    ("walks of eight classes or more, seen", |pairs| {
+        pairs / 1_000
+    }),
+    ("walks of eight classes or more, hidden", |pairs| pairs / 50),
+    ("walks of sixteen classes", |pairs| pairs / 500),
+    ("walks as long as the longest chain", |pairs| pairs),
+    ("walks shorter than the longest chain", |pairs| pairs),
+    ("walks of two classes or more from a home class", |pairs| {
+        pairs
+    }),
+    // Here a hidden turn's count could tell L of what it may not see.
+    (
+        "turns hidden in both lists, after walks of different lengths",
+        |pairs| pairs / 5,
+    ),
 ];
 
 /// How much a search met of all that is counted.
@@ -143,7 +162,9 @@ impl Met {
         for log in logs {
             self.add("offers to full queues", refused(log, Refusal::QueueFull));
             self.add_home_turns(pair, log);
+            self.add_walks(pair, log);
         }
+        self.add_hidden_walks(pair, logs);
         for (side, log) in logs.into_iter().enumerate() {
             self.add_passes(pair, side, log);
         }
@@ -236,11 +257,9 @@ impl Met {
     /// Counts the turns of a log by what the plan says of them and of those after.
     fn add_home_turns(&mut self, pair: &Pair, log: &[u32]) {
         let policy = &pair.policy;
-        let turns = log.chunks_exact(LINE).map(|line| line[3]);
-        let turns = turns.filter(|&turn| turn != 0);
-        for (number, turn) in (turn_number(policy, pair.start.cycle)..).zip(turns) {
+        for (number, turn) in (turn_number(policy, pair.start.cycle)..).zip(turns(log)) {
             if let Some(home) = policy.home(number) {
-                let owned = (turn & 0xFF) as usize == home + 1;
+                let owned = owner(turn) == home;
                 self.add_if(owned, "home turns that their class owns");
                 self.add_if(!owned, "home turns passed on");
             }
@@ -252,6 +271,53 @@ impl Met {
                 self.add_if(end, "epochs' ends before a home turn");
             }
         }
+    }
+
+    /// Counts the turns of a log by how many classes their walks tried.
+    fn add_walks(&mut self, pair: &Pair, log: &[u32]) {
+        let policy = &pair.policy;
+        let (least, n) = (policy.least(), policy.class_count());
+        let bounds: Vec<u32> = (0..n).map(|class| longest_chain(policy, class)).collect();
+        for (number, turn) in (turn_number(policy, pair.start.cycle)..).zip(turns(log)) {
+            let tried = tried(turn);
+            let home = policy.home(number);
+            let bound = bounds[home.unwrap_or(least)];
+            self.add_if(tried == bound, "walks as long as the longest chain");
+            self.add_if(tried < bound, "walks shorter than the longest chain");
+            self.add_if(tried == 16, "walks of sixteen classes");
+            if tried < 2 {
+                continue;
+            }
+            let (name, name_of_eight) = match pair.sees(owner(turn)) {
+                true => (
+                    "walks of two classes or more, seen",
+                    "walks of eight classes or more, seen",
+                ),
+                false => (
+                    "walks of two classes or more, hidden",
+                    "walks of eight classes or more, hidden",
+                ),
+            };
+            self.add(name, 1);
+            self.add_if(tried >= 8, name_of_eight);
+            self.add_if(
+                home.is_some(),
+                "walks of two classes or more from a home class",
+            );
+        }
+    }
+
+    /// Counts the turns that are hidden in both logs, and whose walks differ in length.
+    fn add_hidden_walks(&mut self, pair: &Pair, [left, right]: [&[u32]; 2]) {
+        let both = turns(left).zip(turns(right));
+        let hidden = |turn: u32| !pair.sees(owner(turn));
+        let differ = |&(left, right): &(u32, u32)| {
+            hidden(left) && hidden(right) && tried(left) != tried(right)
+        };
+        self.add(
+            "turns hidden in both lists, after walks of different lengths",
+            both.filter(differ).count(),
+        );
     }
 
     fn add_lists(&mut self, pair: &Pair) {
@@ -318,6 +384,17 @@ impl Met {
         self.add("offers seen that 10 refuses", of_bank_or_kind);
         self.add("offers seen that 11 refuses", of_queue);
     }
+}
+
+/// The turn numbers of a log, of turns that start.
+fn turns(log: &[u32]) -> impl Iterator<Item = u32> + '_ {
+    let turns = log.chunks_exact(LINE).map(|line| line[3]);
+    turns.filter(|&turn| turn != 0)
+}
+
+/// The owner that a turn number names. Where the low byte is 0 it is no class.
+fn owner(turn: u32) -> usize {
+    ((turn & 0xFF) as usize).wrapping_sub(1)
 }
 
 /// The lines that a number refuses.

@@ -5,8 +5,8 @@
 /// Which wrong rule is in place.
 #[derive(Clone, Copy, Debug, Default, PartialEq, Eq)]
 pub enum Planted {
-    /// None: the rules of document 01 with W-201, W-202, W-203 and W-206. Every tick, run,
-    /// extract and program uses this.
+    /// None: the rules of document 01 with W-201, W-202, W-203, W-206 and W-212. Every tick,
+    /// run, extract and program uses this.
     #[default]
     Nothing,
     /// The dead time is always dropped.
@@ -135,10 +135,28 @@ pub enum Planted {
     /// rank takes its place, and the same-bank gap is not kept from what was there. It does not
     /// leak, for the same reason.
     BankForgottenForAnotherRank,
+    /// An extract shows 512 for a turn that is not L's with W-212's count of tried classes, as
+    /// the log has it.
+    HiddenTurnsShowTried,
+    /// W-212's count has the classes above the owner too that have a request waiting.
+    TriedWithWaitingAbove,
+    /// W-212's count goes on from the owner to a class with nothing above it, by the marks as
+    /// they would move.
+    TriedToTheTop,
+    /// A turn number carries W-212's count of the turn before it in the same run; the first of a
+    /// run carries 0.
+    TriedOfTheTurnBefore,
+    /// W-212's count is one too large. It tells nothing more than the right one: it is a wrong
+    /// rule, and breaks a promise.
+    TriedOneTooMany,
+    /// W-212's count leaves the owner out. It leaks as little.
+    OwnerNotTried,
+    /// A home class that takes its home turn counts 0 tried classes. It leaks as little.
+    HomeClassNotTried,
 }
 
 /// Every wrong rule that leaks in a list of calls from a fresh state.
-pub const LEAKS: [Planted; 25] = [
+pub const LEAKS: [Planted; 29] = [
     Planted::AlwaysElided,
     Planted::Document000Elision,
     Planted::EpochEndForgotten,
@@ -164,4 +182,8 @@ pub const LEAKS: [Planted; 25] = [
     Planted::MasksOf9And10Swapped,
     Planted::RankGapAboveDeadTime,
     Planted::LastRankFirst,
+    Planted::HiddenTurnsShowTried,
+    Planted::TriedWithWaitingAbove,
+    Planted::TriedToTheTop,
+    Planted::TriedOfTheTurnBefore,
 ];

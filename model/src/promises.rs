@@ -1,7 +1,8 @@
-//! What W-202, W-203, W-206 and W-209 promise of every accepted policy and every list of calls from fresh: a
-//! search for lists in which a promise is broken. The lists are those of the search for leaks
+//! What W-202, W-203, W-206, W-209 and W-212 promise of every accepted policy and every list of calls from
+//! fresh: a search for lists in which a promise is broken. The lists are those of the search for leaks
 //! ([`crate::pairs`]), and what happens in them is taken from the ticks' records and the states between
-//! them; W-203's and W-206's promises are held against the lists and their logs alone ([`crate::reader`]).
+//! them; W-203's, W-206's and W-212's promises are held against the lists and their logs alone
+//! ([`crate::reader`]).
 
 use std::collections::BTreeMap;
 
@@ -11,7 +12,8 @@ use crate::policy::{Policy, LONGEST_EPOCH, MOST_CLASSES};
 use crate::reader::{Reader, SeenTick};
 use crate::state::{Request, State, MOST_PASSES, QUEUE_LIMIT};
 use crate::tick::{offer_in_range, offset, tick_in_range, turn_number, Wires};
-use crate::trace::{run_line, Word};
+use crate::trace::{run_line, tried, Word};
+use crate::walk::longest_chain;
 
 /// What is held against each list.
 #[derive(Clone, Copy, Debug, PartialEq, Eq, PartialOrd, Ord)]
@@ -58,6 +60,13 @@ pub enum Promise {
     /// rank and bank". Of two activates of a log on the same rank and bank, the later comes at least the
     /// same-bank gap after the other.
     BankGap,
+    /// W-212: "It is never above the number of classes on the longest rising chain from the walk's first
+    /// class."
+    WalkBound,
+    /// What W-212's count says of the walk besides: "how many classes the walk tried, the owner counted". A
+    /// way of just so many classes leads from the walk's first class to the turn's owner, from child to
+    /// child.
+    WalkWay,
 }
 
 /// A broken promise.
@@ -70,7 +79,7 @@ pub struct Broken {
 }
 
 /// How often the promises came to bear, and in what way.
-const COUNTED: [&str; 52] = [
+const COUNTED: [&str; 62] = [
     "minimums owed",
     "minimums owed to classes that are not least",
     "minimums owed to a least class",
@@ -123,6 +132,16 @@ const COUNTED: [&str; 52] = [
     "activates of a bank again",
     "activates just the same-bank gap after one of that bank",
     "activates of one bank number on two ranks, closer than the same-bank gap",
+    "walks",
+    "walks of one class",
+    "walks of sixteen classes",
+    "walks as long as the longest chain",
+    "walks of two classes or more as long as the longest chain",
+    "walks shorter than the longest chain",
+    "walks of two classes or more from a home class",
+    "walks of two classes or more from a least class that is not number 0",
+    "walks of two classes or more to a class with others above",
+    "walks to owners that ways of different lengths lead to",
 ];
 
 /// What a search found and how often the promises came to bear.
@@ -184,7 +203,7 @@ pub fn search_planted(count: u64, planted: Planted) -> Search {
             check.waits();
             check.activates();
             check.turns_left();
-            check.passes(pair.start.clone(), list, planted);
+            check.log(pair.start.clone(), list, planted);
         }
     }
     search
@@ -334,6 +353,26 @@ pub fn changed_by(count: u64, planted: Planted) -> Changed {
         }
     }
     changed
+}
+
+/// Numbers of classes, each as the bit of that number.
+type Lengths = u32;
+
+/// For each class how many classes are on the ways to it from another one, both counted, that lead from
+/// child to child.
+fn ways_from(policy: &Policy, first: usize) -> Vec<Lengths> {
+    let n = policy.class_count();
+    let mut ways = vec![0; n];
+    ways[first] = 1 << 1;
+    // A way has at most n classes, so after n rounds all are found.
+    for _ in 0..n {
+        for class in 0..n {
+            for &cover in policy.covers_of(class) {
+                ways[cover] |= ways[class] << 1;
+            }
+        }
+    }
+    ways
 }
 
 /// The turns of one list, held against the promises.
@@ -595,9 +634,55 @@ impl Check<'_> {
         }
     }
 
-    /// Holds W-203's and W-206's promises against the list and its log.
-    fn passes(&mut self, mut state: State, list: &[u32], planted: Planted) {
+    /// Holds W-212's promises against a turn number.
+    fn walk(&mut self, ways: &[Vec<Lengths>], number: u32, turn: u32) {
         let policy = self.policy;
+        let (least, home) = (policy.least(), policy.home(number));
+        let first = home.unwrap_or(least);
+        let (tried, owner) = (tried(turn), (turn & 0xFF) as usize - 1);
+        let bound = longest_chain(policy, first);
+        let what = || format!("turn {number}: {turn:08X}, and the longest chain has {bound}");
+        self.hold(Promise::WalkBound, tried <= bound, what);
+        let lengths = ways[first][owner];
+        self.hold(Promise::WalkWay, lengths >> tried & 1 == 1, what);
+        let others_above = !policy.covers_of(owner).is_empty();
+        let search = &mut *self.search;
+        search.met_if(true, "walks");
+        search.met_if(tried == 1, "walks of one class");
+        search.met_if(tried == 16, "walks of sixteen classes");
+        search.met_if(tried == bound, "walks as long as the longest chain");
+        search.met_if(tried < bound, "walks shorter than the longest chain");
+        search.met_if(
+            lengths.count_ones() > 1,
+            "walks to owners that ways of different lengths lead to",
+        );
+        if tried < 2 {
+            return;
+        }
+        search.met_if(
+            tried == bound,
+            "walks of two classes or more as long as the longest chain",
+        );
+        search.met_if(
+            home.is_some(),
+            "walks of two classes or more from a home class",
+        );
+        search.met_if(
+            home.is_none() && least > 0,
+            "walks of two classes or more from a least class that is not number 0",
+        );
+        search.met_if(
+            others_above,
+            "walks of two classes or more to a class with others above",
+        );
+    }
+
+    /// Holds W-203's, W-206's and W-212's promises against the list and its log.
+    fn log(&mut self, mut state: State, list: &[u32], planted: Planted) {
+        let policy = self.policy;
+        let ways: Vec<Vec<Lengths>> = (0..policy.class_count())
+            .map(|first| ways_from(policy, first))
+            .collect();
         let mut reader = Reader::new(policy, state.cycle);
         // The turn in which the oldest of each class was last passed.
         let mut passed_in: Vec<Option<u32>> = vec![None; policy.class_count()];
@@ -609,6 +694,9 @@ impl Check<'_> {
             let Some(tick) = reader.read(number, &line) else {
                 continue;
             };
+            if line[3] != 0 {
+                self.walk(&ways, turn, line[3]);
+            }
             self.hold(Promise::FirstThatCanGo, tick.is_by_the_rule(), || {
                 format!("number {place} of the list: {tick:?}")
             });

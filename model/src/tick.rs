@@ -25,6 +25,8 @@ pub enum Wires {
 pub struct Turn {
     pub owner: usize,
     pub elided: bool,
+    /// W-212: "how many classes the walk tried, the owner counted". The state does not hold it.
+    pub tried: u32,
 }
 
 /// What one tick showed.
@@ -135,7 +137,8 @@ fn start_turn(policy: &Policy, state: &mut State, planted: Planted) -> Option<Tu
     }
     // "Then the walk picks the owner." "An owner keeps its turn, idle or not":
     // nothing else sets it.
-    state.owner = walk(policy, state, turn, planted);
+    let walked = walk(policy, state, turn, planted);
+    state.owner = walked.owner;
     state.elided = is_elided(policy, state, turn, planted);
     // Not a rule: a broken promise that tests plant.
     if planted == Planted::CountsForgottenAtTurnStart {
@@ -144,6 +147,7 @@ fn start_turn(policy: &Policy, state: &mut State, planted: Planted) -> Option<Tu
     Some(Turn {
         owner: state.owner,
         elided: state.elided,
+        tried: walked.tried,
     })
 }
 

@@ -14,6 +14,9 @@ pub const OFFER_BIT: u32 = 1 << 31;
 pub const COLUMN_BIT: u32 = 1 << 30;
 /// "plus 256 if the dead time is dropped"
 pub const ELIDED: u32 = 256;
+/// W-212: "The turn number in the log carries in bits 16 to 20 how many classes the walk tried".
+pub const TRIED_SHIFT: u32 = 16;
+pub const TRIED_BITS: u32 = 31 << TRIED_SHIFT;
 
 /// "other bits 0": those that no field of an offer takes. W-206: "A trace number is no
 /// longer malformed for its bits 22 and 23."
@@ -95,9 +98,16 @@ fn command_number(wires: &Wires) -> u32 {
 }
 
 /// "Turn is 0 unless a turn starts, then 1 + owner, plus 256 if the dead time is
-/// dropped."
+/// dropped." W-212: "in bits 16 to 20 how many classes the walk tried, the owner counted".
+/// That is 1 to 16, so that no bit is lost.
 fn turn_word(turn: &Turn) -> u32 {
-    1 + turn.owner as u32 + if turn.elided { ELIDED } else { 0 }
+    let elided = if turn.elided { ELIDED } else { 0 };
+    1 + turn.owner as u32 + elided + (turn.tried << TRIED_SHIFT)
+}
+
+/// How many classes were tried, of a turn number other than 0.
+pub fn tried(turn: u32) -> u32 {
+    (turn & TRIED_BITS) >> TRIED_SHIFT
 }
 
 /// A run over a trace. "Order: runs 13, 15"; refused, it makes no call and
@@ -135,6 +145,10 @@ pub fn run_planted(
         line.copy_from_slice(&run_line(policy, state, number, planted));
     }
     // Not a rule: a leak that tests plant.
+    if planted == Planted::TriedOfTheTurnBefore {
+        carry_tried_over(&mut log[..LINE * trace.len()]);
+    }
+    // Not a rule: a leak that tests plant.
     let last = trace.last().map(|&number| Word::of(number));
     if planted == Planted::RunAnswersForItsLastWord && last == Some(Word::Malformed) {
         return Err(Refusal::Malformed);
@@ -158,4 +172,15 @@ pub(crate) fn run_line(
         Word::Malformed => Err(Refusal::Malformed),
     };
     line.unwrap_or_else(|refusal| status_line(refusal.number()))
+}
+
+/// For [`Planted::TriedOfTheTurnBefore`] only.
+fn carry_tried_over(log: &mut [u32]) {
+    let mut before = 0;
+    let turns = log.chunks_exact_mut(LINE).map(|line| &mut line[3]);
+    for turn in turns.filter(|turn| **turn != 0) {
+        let own = *turn & TRIED_BITS;
+        *turn = *turn - own + before;
+        before = own;
+    }
 }

@@ -4,6 +4,8 @@
 mod common;
 #[path = "cases/ranks.rs"]
 mod ranks;
+#[path = "cases/walk.rs"]
+mod walk;
 
 use std::fs;
 use std::path::Path;
@@ -1055,10 +1057,22 @@ fn compare(program: &str, answers: &str) -> usize {
 fn the_proved_program_answers_as_the_model_does() {
     let policies = compare(
         "cases_policies",
-        &(files() + &extracts() + &stored_policies() + &masks() + &chains() + &ranks::policies()),
+        &[
+            files(),
+            extracts(),
+            stored_policies(),
+            masks(),
+            chains(),
+            ranks::policies(),
+            walk::policies(),
+        ]
+        .concat(),
     );
-    let calls = compare("cases_calls", &(calls() + &runs() + &ranks::calls()));
-    assert_eq!((policies, calls), (1101, 1175));
+    let calls = compare(
+        "cases_calls",
+        &[calls(), runs(), ranks::calls(), walk::calls()].concat(),
+    );
+    assert_eq!((policies, calls), (1226, 1435));
 }
 
 #[test]

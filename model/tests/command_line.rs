@@ -67,7 +67,7 @@ const PRINTED_TRACE: [u32; 4] = [0x8001_0007, 0, 0, 0];
 const PRINTED_LOG: &str = "\
 status command answer turn
 00000000 00000000 00000000 00000000
-00000000 80010007 00000000 00000101
+00000000 80010007 00000000 00010101
 00000000 C0010007 00000000 00000000
 00000000 00000000 80010007 00000000
 ";
@@ -193,7 +193,7 @@ fn extract_prints_what_a_class_sees() {
         printed(&["extract", "1"], &folder),
         "status command answer turn\n\
          00000000 00000000 00000000 00000000\n\
-         00000000 81000007 00000000 00000102\n\
+         00000000 81000007 00000000 00020102\n\
          00000000 C1000007 00000000 00000000\n"
     );
     assert_eq!(printed(&["extract", "2"], &folder), "extract refused 9\n");

@@ -183,15 +183,22 @@ fn stray_words_in_a_log_are_shown_or_hidden_by_their_class_bits() {
 
 #[test]
 fn turn_numbers_of_hidden_owners_become_512() {
-    // Class 1 sees turns of 0 and 1, with their dead times, and none of 2.
+    // Class 1 sees turns of 0 and 1, with their dead times and walks, and none of 2.
     for (turn, shown) in [
         (0, 0),
         (1, 1),
         (257, 257),
         (2, 2),
         (258, 258),
+        (0x1_0001, 0x1_0001),
+        (0x2_0102, 0x2_0102),
+        (0x10_0002, 0x10_0002),
+        (0x1F_0002, 0x1F_0002),
         (3, HIDDEN),
         (259, HIDDEN),
+        (0x1_0003, HIDDEN),
+        (0x2_0103, HIDDEN),
+        (0x1F_0003, HIDDEN),
     ] {
         assert_eq!(shown_tick(1, [0, 0, 0, turn]), [0, 0, 0, shown], "{turn}");
     }
@@ -199,7 +206,20 @@ fn turn_numbers_of_hidden_owners_become_512() {
 
 #[test]
 fn turn_numbers_that_name_no_class_become_512_and_0_stays() {
-    for turn in [4, 17, 255, 256, 512, 0xFFFF_FF00, 0x1000, 0x104, u32::MAX] {
+    for turn in [
+        4,
+        17,
+        255,
+        256,
+        512,
+        0x1_0000,
+        0x1_0104,
+        0x10_0000,
+        0xFFFF_FF00,
+        0x1000,
+        0x104,
+        u32::MAX,
+    ] {
         for class in 0..3 {
             assert_eq!(
                 shown_tick(class, [0, 0, 0, turn]),
@@ -231,7 +251,10 @@ fn arbitrary_logs() {
         let mut word = || match random.below(4) {
             0 => 0,
             1 => random.next() as u32,
-            2 => 1 + random.below(6) as u32 + 256 * random.below(4) as u32,
+            2 => {
+                let [owner, above, tried] = [6, 4, 32].map(|below| random.below(below) as u32);
+                1 + owner + 256 * above + 65_536 * tried
+            }
             _ => 0x8000_0000 | (random.below(6) as u32) << 24 | random.below(9) as u32,
         };
         let trace: Vec<u32> = (0..length).map(|_| word()).collect();
@@ -273,7 +296,7 @@ fn the_extracts_of_a_run() {
         extracted(&policy, 1, &list, &log),
         [
             [0, 0, 0, 0],
-            [0, activate(1, 7), 0, 2],
+            [0, activate(1, 7), 0, 0x1_0002],
             [0, column(1, 7), 0, 0],
             [0, 0, activate(1, 7), 0],
             [0, 0, 0, 0],

@@ -217,6 +217,44 @@ fn finds_a_scan_that_prefers_the_rank_of_the_last_activate() {
     assert_eq!(check, Some(Check::Command));
 }
 
+#[test]
+fn finds_an_extract_that_shows_how_long_a_hidden_turns_walk_was() {
+    let check = finds(Planted::HiddenTurnsShowTried);
+    assert_eq!(check, Some(Check::Turn));
+}
+
+#[test]
+fn finds_a_count_of_tried_classes_with_those_above_that_wait() {
+    let check = finds(Planted::TriedWithWaitingAbove);
+    assert_eq!(check, Some(Check::Turn));
+}
+
+#[test]
+fn finds_a_count_of_tried_classes_that_goes_on_to_the_top() {
+    let check = finds(Planted::TriedToTheTop);
+    assert_eq!(check, Some(Check::Turn));
+}
+
+#[test]
+fn finds_a_count_of_tried_classes_of_the_turn_before() {
+    let check = finds(Planted::TriedOfTheTurnBefore);
+    assert_eq!(check, Some(Check::Turn));
+}
+
+/// These are wrong rules, which `promises.rs` finds, and yet each of them follows from the right count and
+/// from whose turn it is.
+#[test]
+fn wrong_counts_of_tried_classes_do_not_leak_while_they_go_by_the_walk_alone() {
+    for planted in [
+        Planted::TriedOneTooMany,
+        Planted::OwnerNotTried,
+        Planted::HomeClassNotTried,
+    ] {
+        let search = search_planted(PAIRS_ENOUGH, planted);
+        assert_eq!(search.leak, None, "{planted:?}");
+    }
+}
+
 /// These are wrong rules, which `promises.rs` finds, and yet no gap of theirs is longer than the dead
 /// time, so no class learns from them what it may not.
 #[test]
@@ -231,7 +269,7 @@ fn wrong_gaps_of_ranks_and_banks_do_not_leak_while_the_dead_time_covers_them() {
 }
 
 /// Each change in what is compared, and the one comparison that can tell it.
-const ALTERED: [(Altered, Option<Check>); 20] = [
+const ALTERED: [(Altered, Option<Check>); 21] = [
     (Altered::Nothing, None),
     (Altered::RunRefused, Some(Check::Run)),
     (Altered::ExtractRefused, Some(Check::Refusal)),
@@ -240,6 +278,7 @@ const ALTERED: [(Altered, Option<Check>); 20] = [
     (Altered::Command, Some(Check::Command)),
     (Altered::Answer, Some(Check::Answer)),
     (Altered::SeenTurn, Some(Check::Turn)),
+    (Altered::SeenWalk, Some(Check::Turn)),
     (Altered::HiddenTurn, Some(Check::Turn)),
     (Altered::PastTheCount, Some(Check::PastTheCount)),
     (Altered::ShortRoomTaken, Some(Check::Room)),

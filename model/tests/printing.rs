@@ -23,7 +23,7 @@ fn hexadecimal_digits_are_capital_letters_in_every_place() {
         "status command answer turn\n\
          0000000E 00000000 00000000 00000000\n\
          00000000 00000000 00000000 00000000\n\
-         00000000 8917ABCD 00000000 0000000A\n\
+         00000000 8917ABCD 00000000 000A000A\n\
          00000000 C917ABCD 00000000 00000000\n\
          00000000 00000000 8917ABCD 00000000\n"
     );
@@ -70,7 +70,7 @@ fn extracts_are_printed_in_the_same_form() {
         String::from_utf8_lossy(&extract(1)),
         "status command answer turn\n\
          00000000 00000000 00000000 00000000\n\
-         00000000 8100000A 00000000 00000102\n\
+         00000000 8100000A 00000000 00020102\n\
          trace ends inside a word\n"
     );
     assert_eq!(extract(2), b"extract refused 9\n");

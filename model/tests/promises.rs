@@ -1,5 +1,5 @@
-//! The promises of W-202, W-203, W-206 and W-209 hold of the model as it is, and the search for lists that
-//! break one finds every rule that does.
+//! The promises of W-202, W-203, W-206, W-209 and W-212 hold of the model as it is, and the search for lists
+//! that break one finds every rule that does.
 
 use std::sync::OnceLock;
 
@@ -60,6 +60,8 @@ fn the_model_as_it_is_keeps_every_promise() {
         Promise::AtMost15Pass,
         Promise::RankGap,
         Promise::BankGap,
+        Promise::WalkBound,
+        Promise::WalkWay,
     ] {
         assert_eq!(ordinary_search().broken.get(&promise), None, "{promise:?}");
     }
@@ -153,14 +155,20 @@ fn finds_the_oldest_alone_by_the_rule() {
 fn finds_the_youngest_that_can_go() {
     let broken = broken_by(Planted::YoungestFirst);
     assert!(broken.contains(&Promise::FirstThatCanGo), "{broken:?}");
-    assert!(broken.contains(&Promise::OrderOfRankBankAndKind), "{broken:?}");
+    assert!(
+        broken.contains(&Promise::OrderOfRankBankAndKind),
+        "{broken:?}"
+    );
 }
 
 #[test]
 fn finds_a_queue_that_does_not_close_up_in_its_order() {
     let broken = broken_by(Planted::LastMovesUp);
     assert!(broken.contains(&Promise::FirstThatCanGo), "{broken:?}");
-    assert!(broken.contains(&Promise::OrderOfRankBankAndKind), "{broken:?}");
+    assert!(
+        broken.contains(&Promise::OrderOfRankBankAndKind),
+        "{broken:?}"
+    );
 }
 
 #[test]
@@ -224,6 +232,31 @@ fn finds_wrong_gaps_of_ranks_and_banks() {
 fn finds_a_rank_gap_above_the_dead_time_by_the_activate_owed() {
     let broken = broken_by(Planted::RankGapAboveDeadTime);
     assert_eq!(broken, [Promise::Activate]);
+}
+
+/// In a walk as long as the longest chain the count is above it.
+#[test]
+fn finds_a_count_of_tried_classes_that_is_one_too_large() {
+    let broken = broken_by(Planted::TriedOneTooMany);
+    assert_eq!(broken, [Promise::WalkBound, Promise::WalkWay]);
+}
+
+/// A count that is too small is never above the longest chain. It is found since no way is so short.
+#[test]
+fn finds_counts_that_leave_out_the_owner_or_a_home_class() {
+    for planted in [Planted::OwnerNotTried, Planted::HomeClassNotTried] {
+        assert_eq!(broken_by(planted), [Promise::WalkWay], "{planted:?}");
+    }
+}
+
+/// The counts that leak are no rule either. One that goes on by the marks is that of a longer walk, and never
+/// above the longest chain; one with all that wait above the owner may be.
+#[test]
+fn finds_counts_that_go_by_classes_above_the_owner() {
+    let waiting = broken_by(Planted::TriedWithWaitingAbove);
+    assert_eq!(waiting, [Promise::WalkBound, Promise::WalkWay]);
+    let to_the_top = broken_by(Planted::TriedToTheTop);
+    assert_eq!(to_the_top, [Promise::WalkWay]);
 }
 
 /// Neither of these two shows in the log of a list from fresh: where a walk comes to a class, the class

@@ -334,7 +334,7 @@ fn an_activate_waits_for_the_rank_gap_alone() {
         [
             [0, 0, 0, 0],
             [0, 0, 0, 0],
-            [0, first, 0, 0x101],
+            [0, first, 0, 0x1_0101],
             [0, first | COLUMN, 0, 0],
             [0, 0, first, 0],
             [0, 0, 0, 0],
@@ -511,7 +511,7 @@ fn a_rank_gap_of_the_dead_time_is_over_as_the_next_turn_starts() {
     let expected = [0, 0, 0, high, high | COLUMN, 0, 0, 0, low, low | COLUMN];
     assert_eq!(commands, expected);
     // Class 1 keeps its dead time, and class 0 drops it.
-    assert_eq!(turns(&log), [0x002, 0x101]);
+    assert_eq!(turns(&log), [0x2_0002, 0x1_0101]);
 }
 
 // ---------------------------------------------------------------------------
@@ -530,7 +530,7 @@ fn words_are_printed_with_the_rank() {
         printed(&fields.clone().with_rank_gap(2).encode()),
         "status command answer turn\n\
          00000000 00000000 00000000 00000000\n\
-         00000000 80C10007 00000000 00000101\n\
+         00000000 80C10007 00000000 00010101\n\
          00000000 C0C10007 00000000 00000000\n\
          00000000 00000000 80C10007 00000000\n"
     );
@@ -539,7 +539,7 @@ fn words_are_printed_with_the_rank() {
         printed(&fields.encode()),
         "status command answer turn\n\
          0000000A 00000000 00000000 00000000\n\
-         00000000 00000000 00000000 00000102\n\
+         00000000 00000000 00000000 00020102\n\
          00000000 00000000 00000000 00000000\n\
          00000000 00000000 00000000 00000000\n"
     );
@@ -592,7 +592,7 @@ fn the_extract_shows_words_with_their_rank() {
         extracted(&policy, 1, &list, &log),
         [
             [0, 0, 0, 0],
-            [0, high, 0, 0x102],
+            [0, high, 0, 0x2_0102],
             [0, high | COLUMN, 0, 0],
             [0, 0, high, 0],
         ]

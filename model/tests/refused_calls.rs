@@ -123,7 +123,7 @@ fn numbers_past_the_log_of_a_run_stay() {
     let mut log = [77; 11];
     let mut state = fresh(&policy);
     assert_eq!(run(&policy, &mut state, &[0, 1], &mut log), Ok(()));
-    assert_eq!(log, [0, 0, 0, 258, 14, 0, 0, 0, 77, 77, 77]);
+    assert_eq!(log, [0, 0, 0, 0x2_0102, 14, 0, 0, 0, 77, 77, 77]);
 }
 
 #[test]
@@ -149,7 +149,7 @@ fn a_run_goes_on_after_refused_lines_and_writes_them() {
             [10, 0, 0, 0],
             [11, 0, 0, 0],
             [14, 0, 0, 0],
-            [0, read_word(0, 1), 0, 0x101],
+            [0, read_word(0, 1), 0, 0x1_0101],
         ]
     );
 }

@@ -123,7 +123,7 @@ fn a_turn_may_start_at_the_last_tick_and_what_it_activates_never_comes_back() {
     state.cycle = 16_777_214;
     assert_eq!(state.cycle % 47, 0);
     let log = run_on(&policy, &mut state, &[read_word(0, 1), 0, 0]);
-    assert_eq!(log[4..], [0, read_word(0, 1), 0, 0x101, 12, 0, 0, 0]);
+    assert_eq!(log[4..], [0, read_word(0, 1), 0, 0x1_0101, 12, 0, 0, 0]);
     assert_eq!((state.columns.len(), state.responses.len()), (1, 1));
     // Flights past the last cycle are in range, so offers go on.
     assert_eq!(offer(&policy, &mut state, read_request(1, 0)), Ok(()));

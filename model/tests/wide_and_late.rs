@@ -174,7 +174,7 @@ fn the_last_tick_of_all_is_as_any_other_and_then_comes_12() {
     // An answer would come with the tick after the last as well.
     let log = run_on(&policy, &mut state, &[0, 0, 0, word, 0, 0, 0, word, 0]);
     let lines: Vec<&[u32]> = log.chunks(4).collect();
-    assert_eq!(lines[0], [0, 0, 0, 0x102]);
+    assert_eq!(lines[0], [0, 0, 0, 0x1_0102]);
     assert_eq!(lines[4], [0, word, 0, 0]);
     assert_eq!(lines[5], [0, column, 0, 0]);
     assert_eq!(lines[6..], [[12, 0, 0, 0], [0; 4], [12, 0, 0, 0]]);

@@ -122,13 +122,14 @@ fn g_a_sum_of_minimums_equal_to_e_is_taken_and_one_more_gets_7() {
     assert_eq!(number(64, &[128, 128]), 7);
 }
 
+/// W-212: "in case (h) the turn 00000101 becomes 00010101".
 #[test]
 fn h_the_printed_log() {
     let trace = [0x07, 0x00, 0x01, 0x80, 0, 0, 0, 0, 0, 0, 0, 0, 0, 0, 0, 0];
     let printed = "\
 status command answer turn
 00000000 00000000 00000000 00000000
-00000000 80010007 00000000 00000101
+00000000 80010007 00000000 00010101
 00000000 C0010007 00000000 00000000
 00000000 00000000 80010007 00000000
 ";

@@ -6,7 +6,7 @@ from collections import Counter
 
 from vigambul import build
 from vigambul.folders import folder_at, run_folder
-from vigambul.formats import Request, is_column, is_elided, is_offer, owner_of, request_of
+from vigambul.formats import Request, is_column, is_elided, is_offer, owner_of, request_of, walk_of
 from vigambul.history import calls_of, passing
 from vigambul.picture import BAR_Y, HOME_Y, MARKS, ROW, ROWS_Y, rows_of
 from vigambul.policies import Policy
@@ -76,8 +76,9 @@ class PictureCase(Case):
         self.assert_near([bar[:3] for bar in picture.bars("turn")], bars)
         for bar, call in zip(picture.bars("turn"), turns):
             ends = min(call.cycle + ran.policy.turn, ticks) - 1
-            kept = "dropped" if is_elided(call.turn) else "kept"
-            self.assertEqual(bar[3], "turn %d, cycles %d to %d: %s, dead time %s" % (call.cycle // ran.policy.turn, call.cycle, ends, ran.names.of(owner_of(call.turn)), kept))
+            walk = "" if walk_of(call.turn) == 1 else ", walk of %d" % walk_of(call.turn)
+            words = "%s%s, dead time %s" % (ran.names.of(owner_of(call.turn)), walk, "dropped" if is_elided(call.turn) else "kept")
+            self.assertEqual(bar[3], "turn %d, cycles %d to %d: %s" % (call.cycle // ran.policy.turn, call.cycle, ends, words))
         dead = []
         for call in turns:
             begins, ends = max(call.cycle + ran.policy.turn - ran.policy.dead, first), min(call.cycle + ran.policy.turn - 1, last)

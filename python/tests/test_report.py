@@ -8,7 +8,7 @@ from collections import Counter, defaultdict
 from vigambul import build
 from vigambul.figures import figures_of
 from vigambul.folders import folder_at, run_folder
-from vigambul.formats import COLUMN, owner_of, request_of
+from vigambul.formats import COLUMN, is_elided, owner_of, request_of, walk_of
 from vigambul.history import calls_of
 from vigambul.tables import aligned, grouped
 
@@ -150,12 +150,12 @@ class Numbers(Case):
 
     def test_generated(self):
         """Every figure counted once more from the calls, in another way."""
-        seen = left = passed = most = changes = 0
+        seen = left = passed = most = changes = longest = 0
         for ran in generated(build.library(), self.room, 25, 300):
             figures = figures_of(ran)
             calls = list(calls_of(ran.trace, ran.log))
             ticks = [call for call in calls if call.ticks]
-            owners = [owner_of(call.turn) for call in ticks if call.turn]
+            owners, walks = ([field(call.turn) for call in ticks if call.turn] for field in (owner_of, walk_of))
             requests = [(call.cycle // ran.policy.turn, request_of(call.command)) for call in ticks if call.command and not call.command & COLUMN]
             activates = [(turn, request.class_) for turn, request in requests]
             ranks = [request.rank for _, request in requests]
@@ -177,7 +177,10 @@ class Numbers(Case):
                 mine_on = [request.rank for _, request in requests if request.class_ == number]
                 self.assertEqual(service.on_ranks, [mine_on.count(rank) for rank in range(4)])
                 self.assertEqual(service.idle, sum(owner == number and (turn, number) not in activates for turn, owner in enumerate(owners)))
-                self.assertEqual(service.elided, sum(call.turn == number + 257 for call in ticks))
+                self.assertEqual(service.elided, sum(owner_of(call.turn) == number and is_elided(call.turn) for call in ticks))
+                from_it = [walks[turn] for turn in range(len(owners)) if turn in homes or number == ran.policy.least and ran.policy.home(turn) is None]
+                self.assertEqual(service.walks, Counter(from_it))
+                longest = max(longest, service.longest_walk or 0)
                 self.assertEqual((service.passing, service.past_one), passing_of(number, calls))
                 passed += service.passing
                 most = max(most, service.past_one)
@@ -198,6 +201,7 @@ class Numbers(Case):
         self.assertGreater(passed, 100)
         self.assertGreater(most, 2)
         self.assertGreater(changes, 100)
+        self.assertGreater(longest, 3)
 
     def test_together(self):
         """Over all: the CSV's rows of a class add up to the JSON's figures over all."""

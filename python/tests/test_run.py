@@ -41,7 +41,7 @@ class Run(Case):
         """Turn 1 of the cloud is no home turn; red leaves its home turn 2 to keys, and owns its home turn 10."""
         lines = self.succeeds("run", EXAMPLES / "cloud", "--words").splitlines()
         starts = dict(line.split(": turn of ") for line in lines if ": turn of " in line)
-        for cycle, words in ((18, "red, dead time dropped"), (36, "keys, home turn of red, dead time kept"), (180, "red, its home turn, dead time dropped")):
+        for cycle, words in ((18, "red, walk of 2, dead time dropped"), (36, "keys, home turn of red, walk of 2, dead time kept"), (180, "red, its home turn, dead time dropped")):
             self.assertEqual(starts["cycle %d" % cycle].partition(";")[0], words)
 
     def test_passing_in_words(self):

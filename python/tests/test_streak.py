@@ -244,8 +244,8 @@ class Forms(StreakCase):
         self.assertEqual(self.succeeds("streak", folder, folder / "expected.txt", "--ledger", self.ledger), "streak: 34 cycles and no difference so far\n")
         for word in ("81130001", "81040009"):
             lines = (folder / "expected.txt").read_text().splitlines()
-            self.assertEqual(lines[19], "00000000 81040002 00000000 00000002")
-            lines[19] = "00000000 %s 00000000 00000002" % word
+            self.assertEqual(lines[19], "00000000 81040002 00000000 00010002")
+            lines[19] = "00000000 %s 00000000 00010002" % word
             status, out, _ = vig("streak", folder, self.text("\n".join(lines) + "\n"), "--ledger", self.ledger)
             self.assertEqual((status, out.splitlines()[1]), (1, "this run differs: first in cycle 10, last in cycle 10"))
 

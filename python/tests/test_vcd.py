@@ -4,7 +4,7 @@ import re
 
 from vigambul import build
 from vigambul.folders import folder_at, run_folder
-from vigambul.formats import is_column, is_elided, owner_of, request_of
+from vigambul.formats import is_column, is_elided, owner_of, request_of, walk_of
 from vigambul.history import calls_of
 from vigambul.policies import Names, Policy
 from vigambul.waveform import identifiers
@@ -96,14 +96,14 @@ class VcdCase(Case):
         that starts with a request waiting."""
         policy, names = ran.policy, identifiers(ran.names, ran.policy.classes)
         queues, passed, caps = [[] for _ in names], [0 for _ in names], [policy.cap(number) for number in range(policy.classes)]
-        owners, charged, elided = [], [], False
+        owners, charged, elided, walk = [], [], False, 0
         for call in calls_of(ran.trace, ran.log):
             if call.ticks:
                 if call.turn:
                     owners.append(owner_of(call.turn))
-                    home, elided = policy.home(call.cycle // policy.turn), is_elided(call.turn)
+                    home, elided, walk = policy.home(call.cycle // policy.turn), is_elided(call.turn), walk_of(call.turn)
                     charged.append(None if home == owners[-1] and queues[home] else owners[-1])
-                wanted = self.values_of(call, policy, names, owners, elided)
+                wanted = {"walk": walk, **self.values_of(call, policy, names, owners, elided)}
                 this_epoch = charged[len(charged) - 1 - (len(charged) - 1) % policy.epoch :]
                 for number, name in enumerate(names):
                     wanted["queue." + name] = len(queues[number])
@@ -228,7 +228,7 @@ class SaveFile(VcdCase):
         self.assertEqual(listed, ["vigambul." + path for path in wanted])
         policy = Policy([0xFFFF] + [1 << number for number in range(1, 16)], 1, [0] * 16, [6, 3, 2, 2, 2, 2, 3, 3, 1, 3, 2])
         dump = self.dump(write(self.room / "sixteen", policy, [0]))
-        self.assertEqual(len(dump.codes), 72)
+        self.assertEqual(len(dump.codes), 73)
 
 
 class NamesAndUsage(VcdCase):

@@ -11,6 +11,7 @@ the modules here turn texts into their files and their numbers into words, table
 | `policy_ranges` | the ranges of a policy's numbers, for telling which is out |
 | `policy_show` | any file taken apart as a policy file, byte by byte |
 | `sign_off` | what a policy means: flows, minimums, caps and home turns, timing, ranks |
+| `walks` | how many classes a walk may try, which hardware must do in one cycle |
 | `minimums` | the plan of an epoch, and what minimums and caps do and guarantee, under the rules in force |
 | `order_drawing` | the order of a policy as a drawing |
 | `clock` | times turned into cycles |

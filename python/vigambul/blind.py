@@ -4,9 +4,10 @@ out; then its two extracts, by the proved extract, must be equal. That they are 
 from dataclasses import dataclass
 
 from .folders import extract_of
+from .formats import differ_in_walk
 from .history import calls_of
 from .purge import place_of_seen, purge
-from .words import call_words, trace_words
+from .words import ONLY_IN_WALK, call_words, trace_words
 
 FIELDS = ("status", "command", "answer", "turn")
 
@@ -62,7 +63,9 @@ def _line_words(seen, line, names):
 def difference_words(sides, place, names):
     """The first place at which two extracts differ: line, field, and the two lines in words."""
     line, part = divmod(place, 4)
-    yield "the first difference is in line %d of the extracts, in its %s:" % (line + 1, FIELDS[part])
+    turns = [seen.numbers[place] for seen in sides if FIELDS[part] == "turn" and place < len(seen.numbers)]
+    alone = ", " + ONLY_IN_WALK if len(turns) == 2 and differ_in_walk(*turns) else ""
+    yield "the first difference is in line %d of the extracts, in its %s%s:" % (line + 1, FIELDS[part], alone)
     for seen in sides:
         number = "%08X" % seen.numbers[place] if place < len(seen.numbers) else "nothing"
         yield "  %s: %s: %s" % (seen.ran.folder.path, number, _line_words(seen, line, names))

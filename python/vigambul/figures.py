@@ -11,7 +11,8 @@ from .history import Replay
 @dataclass
 class Service:
     """A class's figures. `waits` has how many answered requests waited how long; `homes` are its home turns, whoever owned them; `passing` are its activates that passed an older
-    request, and `past_one` is the most that passed one oldest; `on_ranks` has how many of its activates were on each rank."""
+    request, and `past_one` is the most that passed one oldest; `on_ranks` has how many of its activates were on each rank; `walks` has how many walks that started at it tried how
+    many classes."""
 
     taken: int = 0
     full: int = 0
@@ -25,6 +26,7 @@ class Service:
     passing: int = 0
     past_one: int = 0
     on_ranks: list = field(default_factory=lambda: [0] * RANKS)
+    walks: Counter = field(default_factory=Counter)
 
     @property
     def answers(self):
@@ -46,6 +48,10 @@ class Service:
     @property
     def longest(self):
         return max(self.waits, default=None)
+
+    @property
+    def longest_walk(self):
+        return max(self.walks, default=None)
 
     def nearest_rank(self, percent):
         """By nearest rank: the least wait that at least so many in 100 of the answered requests do not exceed."""
@@ -69,15 +75,18 @@ class Service:
         self.passing += other.passing
         self.past_one = max(self.past_one, other.past_one)
         self.on_ranks = [mine + others for mine, others in zip(self.on_ranks, other.on_ranks)]
+        self.walks += other.walks
 
 
 @dataclass
 class Figures:
     """The figures of a run, or of several under one policy. `whole` has the turns of each class in each epoch all of whose turns started, class by class, epoch after epoch;
-    `part` those of the epoch in which a run ended, where not all of its turns started. `rank_changes` are the activates on another rank than the one before."""
+    `part` those of the epoch in which a run ended, where not all of its turns started. `rank_changes` are the activates on another rank than the one before. `bounds` has how many
+    classes a walk from each class tries at most, if they were asked for."""
 
     policy: object
     services: list
+    bounds: list = None
     ticks: int = 0
     turns: int = 0
     columns: int = 0
@@ -98,6 +107,11 @@ class Figures:
     @property
     def busy_percent(self):
         return 100 * self.busy / self.ticks if self.ticks else None
+
+    @property
+    def walks(self):
+        """How many walks tried how many classes, whatever class they started at."""
+        return sum((service.walks for service in self.services), Counter())
 
     @property
     def epochs(self):
@@ -121,16 +135,16 @@ class Figures:
         self.part = None
 
 
-def empty_figures(policy):
-    return Figures(policy, [Service() for _ in range(policy.classes)])
+def empty_figures(policy, bounds=None):
+    return Figures(policy, [Service() for _ in range(policy.classes)], bounds)
 
 
 class Counting(Replay):
     """Counts the figures of a run."""
 
-    def __init__(self, policy):
+    def __init__(self, policy, bounds):
         super().__init__(policy)
-        self.figures = empty_figures(policy)
+        self.figures = empty_figures(policy, bounds)
         self.owned = [0] * policy.classes
         self.used = False
         # The rank of the last activate of all.
@@ -152,6 +166,7 @@ class Counting(Replay):
         service = self.figures.services[self.owner]
         service.turns += 1
         service.elided += self.elided
+        self.figures.services[self.walked_from].walks[self.walk] += 1
         if self.home is not None:
             self.figures.services[self.home].homes += 1
             service.homes_owned += self.owner == self.home
@@ -181,8 +196,9 @@ class Counting(Replay):
         self.figures.services[class_of(word)].waits[self.cycle - offered] += 1
 
 
-def figures_of(ran):
-    counting = Counting(ran.policy).run(ran)
+def figures_of(ran, bounds=None):
+    """The figures of a run. The bounds of walks are for those who hold the walks against them."""
+    counting = Counting(ran.policy, bounds).run(ran)
     figures = counting.figures
     figures.ticks, figures.turns = counting.cycle, counting.turn + 1
     if counting.turn >= 0:
@@ -192,7 +208,7 @@ def figures_of(ran):
 
 def figures_over(several):
     """The figures of several runs under one policy, taken together."""
-    together = empty_figures(several[0].policy)
+    together = empty_figures(several[0].policy, several[0].bounds)
     for figures in several:
         together.add(figures)
     return together

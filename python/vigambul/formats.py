@@ -17,7 +17,11 @@ OFFER = 1 << 31
 COLUMN = 1 << 30
 # The bits that an offer has: 31, the class's, the rank's, the kind's, the bank's and the tag's.
 OFFER_BITS = OFFER | 0x1F << 24 | 0x3 << 22 | 0x3 << 20 | 0xF << 16 | 0xFFFF
+# The fields of a turn number: the owner and 1 in the low byte, whether the dead time is dropped, and how many classes the walk tried (W-212).
+OWNER = 0xFF
 ELIDED = 256
+WALK_AT = 16
+WALK = 0x1F << WALK_AT
 
 # The numbers of an offer whose class has all its places taken, and of a tick after the last one.
 QUEUE_FULL = 11
@@ -75,12 +79,27 @@ def starts_turn(turn):
 
 def owner_of(turn):
     """The owner in a turn number of a log; -1 where it is that of a turn which an extract hides."""
-    return (turn & 0xFF) - 1
+    return (turn & OWNER) - 1
 
 
 def is_elided(turn):
     """Whether the dead time of the turn is dropped."""
     return turn & ELIDED != 0
+
+
+def walk_of(turn):
+    """How many classes the walk tried that picked the owner, the owner counted; 0 in the turn number of a turn which an extract hides."""
+    return (turn & WALK) >> WALK_AT
+
+
+def turn_number(owner, elided, walk):
+    """The turn number of a log where a turn starts."""
+    return 1 + owner + ELIDED * elided + (walk << WALK_AT)
+
+
+def differ_in_walk(turn, other):
+    """Whether two turn numbers have the same owner and the same dead time, and differ in how many classes the walk tried."""
+    return turn != other and owner_of(turn) >= 0 and (turn ^ other) & ~WALK == 0
 
 
 def words_of(data):

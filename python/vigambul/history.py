@@ -5,7 +5,7 @@ have 17,000,000 numbers: nothing is kept for each."""
 from collections import defaultdict, deque
 from typing import NamedTuple
 
-from .formats import COLUMN, TICKS_OVER, class_of, is_column, is_elided, is_offer, is_tick, owner_of
+from .formats import COLUMN, TICKS_OVER, class_of, is_column, is_elided, is_offer, is_tick, owner_of, walk_of
 
 
 class Call(NamedTuple):
@@ -89,7 +89,8 @@ def passing(calls):
 class Replay:
     """Goes through a run once and tells what happens by the methods from `refused` to `ticked`, which do nothing here: one who wants to know overrides them. In them,
     `cycle` is the cycle under way (of an offer: next to be ticked), `queues`, `lengths` and `left` are the queues, their lengths and the turns left of each class, `turn`,
-    `owner`, `home` and `elided` are of the turn under way (-1, None, None and False before the first); `home` is the class whose home turn it is, or None."""
+    `owner`, `home`, `walk` and `elided` are of the turn under way (-1, None, None, 0 and False before the first); `home` is the class whose home turn it is, or None, and `walk` is
+    how many classes the walk tried, the owner counted."""
 
     def __init__(self, policy):
         self.policy = policy
@@ -99,13 +100,19 @@ class Replay:
         self.caps = [policy.cap(number) for number in range(policy.classes)]
         self.left = list(self.caps)
         self.plan = [policy.home(turn) for turn in range(policy.epoch)]
-        self.turn, self.owner, self.home, self.elided = -1, None, None, False
+        self.least = policy.least
+        self.turn, self.owner, self.home, self.walk, self.elided = -1, None, None, 0, False
         # Requests activated and not yet answered: a word and the cycle of its offer.
         self._flying = deque()
 
     @property
     def epoch(self):
         return self.turn // self.policy.epoch
+
+    @property
+    def walked_from(self):
+        """The class at which the walk of the turn under way started."""
+        return self.least if self.home is None else self.home
 
     @property
     def dead_from(self):
@@ -124,7 +131,7 @@ class Replay:
         """An offer was taken; its queue is the longer by it already."""
 
     def turn_started(self):
-        """A turn starts: whose it is, and its dead time, are known, and the owner is charged where it is."""
+        """A turn starts: whose it is, its walk and its dead time are known, and the owner is charged where it is."""
 
     def turn_ended(self):
         """The last cycle of a turn, or of the run, is over; `cycle` is the one after it, and all else is still the turn's."""
@@ -176,7 +183,7 @@ class Replay:
             self.turn_ended()
         self.turn = self.cycle // self.policy.turn
         place = self.turn % self.policy.epoch
-        self.owner, self.home, self.elided = owner_of(turn), self.plan[place], is_elided(turn)
+        self.owner, self.home, self.walk, self.elided = owner_of(turn), self.plan[place], walk_of(turn), is_elided(turn)
         if place == 0:
             self.left = list(self.caps)
         if self.home is None or self.lengths[self.home] == 0:

@@ -1,7 +1,9 @@
-"""The proved library, include/vigambul.h: the run and the extract."""
+"""The proved library, include/vigambul.h: the run, the extract and the bound of a walk."""
 
 import ctypes
 from array import array
+
+from .errors import Wrong
 
 _WORD = "I" if array("I").itemsize == 4 else "L"
 
@@ -25,6 +27,12 @@ class Library:
         self._extract.restype = ctypes.c_size_t
         self._extract.argtypes = slices + [ctypes.c_uint32] + slices * 3 + [ctypes.POINTER(ctypes.c_uint32)]
 
+        # A library of before W-212 lacks it, and may be in use where it cannot be built anew.
+        self._walk_bound = getattr(shared, "vigambul_walk_bound", None)
+        if self._walk_bound:
+            self._walk_bound.restype = ctypes.c_uint32
+            self._walk_bound.argtypes = slices + [ctypes.c_uint32, ctypes.POINTER(ctypes.c_uint32)]
+
     def read(self, policy):
         """The proved reader's answer to a policy file's bytes: 0, or the number that refuses it."""
         return self.run(policy, ())[0]
@@ -43,3 +51,12 @@ class Library:
         status = ctypes.c_uint32()
         count = self._extract(*_lent(file), seen_by, *_lent(calls), *_lent(lines), *_lent(out), ctypes.byref(status))
         return status.value, out[:count]
+
+    def walk_bound(self, policy, first):
+        """The status of the question how many classes a walk that starts at a class tries at most, and the answer: the classes on the longest rising chain from it, itself counted."""
+        if not self._walk_bound:
+            raise Wrong("the built library is too old to say how many classes a walk may try: it is built anew where the Rattle kit's command rt is on the path")
+        file = array("B", policy)
+        status = ctypes.c_uint32()
+        bound = self._walk_bound(*_lent(file), first, ctypes.byref(status))
+        return status.value, bound

@@ -8,7 +8,7 @@ from .errors import Wrong
 from .formats import class_of, is_offer, rank_of
 from .history import Replay
 from .svg import coordinate, element, file_of, text, title_of
-from .words import command_words, counted, refusal_words, request_words, trace_words
+from .words import command_words, counted, refusal_words, request_words, trace_words, turn_parts
 
 # Turns that are shown where no range is asked for.
 TURNS_SHOWN = 40
@@ -75,11 +75,12 @@ HATCH = (
 
 @dataclass
 class Bar:
-    """A turn: its owner, the class whose home turn it is, or None, its first cycle, the first of its dead time, and the last that was ticked."""
+    """A turn: its owner, the class whose home turn it is, or None, how many classes its walk tried, its first cycle, the first of its dead time, and the last that was ticked."""
 
     number: int
     owner: int
     home: int
+    walk: int
     elided: bool
     first: int
     dead: int
@@ -129,7 +130,7 @@ class Events(Replay):
 
     def turn_ended(self):
         if self._began <= self.last and self.cycle > self.first:
-            self.bars.append(Bar(self.turn, self.owner, self.home, self.elided, self._began, self.dead_from, self.cycle - 1))
+            self.bars.append(Bar(self.turn, self.owner, self.home, self.walk, self.elided, self._began, self.dead_from, self.cycle - 1))
 
     def activated(self, word, offered, older):
         flight = Flight(self.owner, self.cycle)
@@ -274,8 +275,8 @@ class Drawing:
     def _bar(self, bar):
         first, last = max(bar.first, self.first), min(bar.last, self.last)
         y = self.y(bar.owner) + BAR_Y
-        words = "turn %d, cycles %d to %d: %s, dead time %s" % (bar.number, bar.first, bar.last, self.names.of(bar.owner), "dropped" if bar.elided else "kept")
-        title = title_of(words)
+        parts = turn_parts(bar.owner, bar.walk, bar.elided, self.names)
+        title = title_of("turn %d, cycles %d to %d: %s" % (bar.number, bar.first, bar.last, ", ".join(parts)))
         self.parts.append(element("rect", title, kind="turn", x=self.x(first), y=y, width=self.wide * (last - first + 1), height=BAR))
         dead = max(first, bar.dead)
         if not bar.elided and dead <= last:

@@ -90,6 +90,11 @@ class Policy:
         return next((i for i in range(self.classes) if place in self.home_turns(i)), None)
 
     @property
+    def starts(self):
+        """The classes at which walks start: those with home turns, and the least class, unless home turns fill the epoch."""
+        return [i for i in range(self.classes) if self.minimums[i] or i == self.least and self.free_turns]
+
+    @property
     def least(self):
         """The class that may flow to all, or None."""
         return next((i for i in range(self.classes) if all(self.flows(i, j) for j in range(self.classes))), None)

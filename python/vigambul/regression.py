@@ -17,9 +17,10 @@ from xml.etree import ElementTree
 
 from .errors import Wrong
 from .folders import read_file
-from .formats import REFUSALS, words_of
+from .formats import REFUSALS, differ_in_walk, walk_of, words_of
 from .history import ticks_of
 from .lines import CUT_TRACE, MANY, numbers_of, refusal_of
+from .words import ONLY_IN_WALK
 
 EXPECTED = "expected.txt"
 NEEDED = ("policy.bin", "trace.bin")
@@ -53,6 +54,9 @@ class Row:
             told.append("refused %d: %s" % (self.refusal, REFUSALS[self.refusal].when))
         if self.line is not None:
             told += ["line %d: expected %s" % (self.line, self.expected), "line %d: got      %s" % (self.line, self.got)]
+            expected, got = (numbers_of([line.encode()]) for line in (self.expected, self.got))
+            if expected and got and expected[:3] == got[:3] and differ_in_walk(expected[3], got[3]):
+                told.append("line %d: the two differ %s: %d expected, %d got" % (self.line, ONLY_IN_WALK, walk_of(expected[3]), walk_of(got[3])))
         return told
 
 

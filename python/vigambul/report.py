@@ -6,13 +6,17 @@ import json
 
 from .formats import QUEUE_FULL, RANKS, REFUSALS
 from .tables import aligned, grouped
+from .walks import longest_from
 from .words import counted
 
 # The table's columns, and the groups that they stand in.
-GROUPS = (("", 1), ("offers", 2), ("", 1), ("waits in cycles", 4), ("turns", 2), ("home turns", 2), ("dead times", 1), ("activates", 3), ("turns in a whole epoch", 4))
+GROUPS = (
+    *(("", 1), ("offers", 2), ("", 1), ("waits in cycles", 4), ("turns", 2), ("home turns", 2)),
+    *(("dead times", 1), ("activates", 3), ("turns in a whole epoch", 4), ("walks from it", 2)),
+)
 HEAD = (
     *("class", "taken", "refused %d" % QUEUE_FULL, "answers", "mean", "median", "95th", "longest", "owned", "idle", "started", "owned"),
-    *("dropped", "all", "passing", "past one", "least", "most", "minimum", "cap"),
+    *("dropped", "all", "passing", "past one", "least", "most", "minimum", "cap", "longest", "bound"),
 )
 # Those that stand behind them where the policy has four ranks.
 RANK_GROUPS = (("activates on rank", RANKS),)
@@ -42,6 +46,8 @@ CSV_HEAD = (
     "epoch_turns_most",
     "minimum",
     "cap",
+    "walk_longest",
+    "walk_bound",
 )
 RANK_CSV_HEAD = tuple("activates_rank_%d" % rank for rank in range(RANKS))
 
@@ -81,8 +87,15 @@ def _row(figures, names, number):
         _shown(most),
         policy.minimums[number],
         policy.cap(number),
+        _shown(service.longest_walk),
+        figures.bounds[number],
         *(service.on_ranks if policy.ranks > 1 else ()),
     )
+
+
+def _bound(figures):
+    """How many classes a walk may try, whatever class of those at which turns start it starts at."""
+    return figures.bounds[longest_from(figures.policy, figures.bounds)]
 
 
 def _run_lines(figures, name):
@@ -94,6 +107,8 @@ def _run_lines(figures, name):
         lines.append("%s: %s, %s" % (wires, counted(figures.activates, "activate"), counted(figures.columns, "column command")))
         if figures.policy.ranks > 1:
             lines.append("on another rank than the one before: %d of %s" % (figures.rank_changes, counted(figures.activates, "activate")))
+        walks = ", ".join("%s: %d" % (counted(tried, "class", "classes"), count) for tried, count in sorted(figures.walks.items()))
+        lines.append("walks that tried %s; none may try more than %d" % (walks, _bound(figures)))
     for status, count in sorted(figures.refusals.items()):
         lines.append("refused with %d: %s (%s)" % (status, counted(count, "call"), REFUSALS[status].when))
     return lines
@@ -134,9 +149,14 @@ def csv_of(reported):
             turns = [service.turns, service.idle, service.homes, service.homes_owned, service.elided]
             activates = [service.activates, service.passing, service.past_one]
             epochs = [figures.epochs, *_extremes(figures, number), figures.policy.minimums[number], figures.policy.cap(number)]
+            walks = [service.longest_walk, figures.bounds[number]]
             ranks = [service.on_ranks[rank] if rank < figures.policy.ranks else None for rank in range(columns)]
-            writer.writerow([name, number, names.of(number), service.taken, service.full, service.answers, *waits, *turns, *activates, *epochs, *ranks])
+            writer.writerow([name, number, names.of(number), service.taken, service.full, service.answers, *waits, *turns, *activates, *epochs, *walks, *ranks])
     return out.getvalue()
+
+
+def _walks_value(walks, bound):
+    return {"tried": {str(tried): count for tried, count in sorted(walks.items())}, "longest": max(walks, default=None), "bound": bound}
 
 
 def _class_value(figures, names, number, epochs):
@@ -157,6 +177,7 @@ def _class_value(figures, names, number, epochs):
         "activates": service.activates,
         "passing": {"activates": service.passing, "past_one": service.past_one},
         "whole_epochs": whole,
+        "walks": _walks_value(service.walks, figures.bounds[number]),
         **ranks,
     }
 
@@ -170,6 +191,7 @@ def _run_value(figures, names, epochs):
         "turns_in_an_epoch": figures.policy.epoch,
         "command_wires": {"busy": figures.busy, "busy_percent": figures.busy_percent, "activates": figures.activates, "columns": figures.columns},
         **ranks,
+        "walks": _walks_value(figures.walks, _bound(figures)),
         "refusals": {str(status): count for status, count in sorted(figures.refusals.items())},
         "classes": [_class_value(figures, names, number, epochs) for number in range(figures.policy.classes)],
     }

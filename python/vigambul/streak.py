@@ -5,10 +5,10 @@ from dataclasses import dataclass, field
 from itertools import compress, islice
 from operator import not_
 
-from .formats import line_of, words_of
+from .formats import differ_in_walk, line_of, words_of
 from .history import Call, ticks_of
 from .recorded import LineLog, RefusedLog
-from .words import call_words, counted, tick_words
+from .words import ONLY_IN_WALK, call_words, counted, tick_words
 
 # The cycles that are shown before and after the first difference.
 AROUND = 8
@@ -60,6 +60,13 @@ def _alike_at_end(one, other):
     return _alike(one[::-1], other[::-1])
 
 
+def _only_in_walk(model, block):
+    """Whether two rows of lines, equally many, differ in how many classes walks tried and in nothing else."""
+    if any(model[number::4] != block[number::4] for number in range(3)):
+        return False
+    return all(turn == other or differ_in_walk(turn, other) for turn, other in zip(model[3::4], block[3::4]))
+
+
 def compare(status, log, folder, recorded):
     """A run's status and log against what was recorded."""
     if isinstance(recorded, RefusedLog) or status != 0:
@@ -85,6 +92,8 @@ class LineComparison:
     def __init__(self, folder, log):
         self.trace, self.names, self.log = folder.trace, folder.names, log
         self.first = self.last = None
+        # Whether all that differs so far is how many classes walks tried.
+        self.only_in_walk = True
         # The block's numbers from the first difference on, as far as they are shown.
         self.after = words_of(b"")[0]
 
@@ -94,7 +103,7 @@ class LineComparison:
             self._block(place, numbers)
             place += len(numbers) // 4
         cycles = ticks_of(self.trace, self.log)
-        why = ""
+        why = ONLY_IN_WALK if self.only_in_walk else ""
         if place != len(self.trace):
             why = "the model has %s, and the block %d" % (counted(len(self.trace), "line"), place)
             self.first = min(place, len(self.trace)) if self.first is None else self.first
@@ -109,6 +118,7 @@ class LineComparison:
         if numbers != model:
             shared = numbers[: len(model)]
             alike = _alike(model, shared)
+            self.only_in_walk = self.only_in_walk and _only_in_walk(model, shared)
             if self.first is None:
                 self.first = place + alike // 4
             if alike < len(shared):

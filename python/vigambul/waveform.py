@@ -17,6 +17,7 @@ GROUP_BEGINS, GROUP_ENDS = 0x800200, 0x1000200
 ZOOM = "*-3.000000" + " -1" * 27
 
 TURN_BITS = 23
+WALK_BITS = 5
 CLASS_BITS, KIND_BITS, RANK_BITS, BANK_BITS, TAG_BITS = 5, 2, 2, 4, 16
 LENGTH_BITS = 4
 PASSED_BITS = 4
@@ -53,7 +54,7 @@ class Signal:
 
 
 def _code(place):
-    """The short code of the signal at a place: a visible character. There are 94, and at most 72 signals."""
+    """The short code of the signal at a place: a visible character. There are 94, and at most 73 signals."""
     return chr(ord("!") + place)
 
 
@@ -85,6 +86,7 @@ class Signals:
         self.names = identifiers(names, policy.classes)
         self.texts = [characters(name) for name in self.names]
         self.turn, self.epoch = self._add("", "turn", TURN_BITS), self._add("", "epoch", TURN_BITS)
+        self.walk = self._add("", "walk", WALK_BITS)
         self.owner, self.owner_name = self._add("owner", "class", CLASS_BITS), self._add_name("owner")
         self.home_valid = self._add("home", "valid", 1)
         self.home, self.home_name = self._add("home", "class", CLASS_BITS), self._add_name("home")
@@ -149,7 +151,7 @@ class Waveform(Replay):
 
     def turn_started(self):
         signals, pending = self.signals, self.pending
-        pending[signals.turn], pending[signals.epoch] = self.turn, self.epoch
+        pending[signals.turn], pending[signals.epoch], pending[signals.walk] = self.turn, self.epoch, self.walk
         pending[signals.owner], pending[signals.owner_name] = self.owner, signals.texts[self.owner]
         pending[signals.home_valid] = int(self.home is not None)
         pending[signals.home], pending[signals.home_name] = (0, NO_NAME) if self.home is None else (self.home, signals.texts[self.home])

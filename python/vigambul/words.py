@@ -1,6 +1,9 @@
 """Requests, turns, refusals and whole calls in words, with the classes' names."""
 
-from .formats import CLASSES, KINDS, REFUSALS, is_column, is_elided, is_offer, is_tick, owner_of, request_of, starts_turn
+from .formats import CLASSES, KINDS, REFUSALS, is_column, is_elided, is_offer, is_tick, owner_of, request_of, starts_turn, walk_of
+
+# Said of two logs that differ in this field of turn numbers alone.
+ONLY_IN_WALK = "only in how many classes the walk tried"
 
 
 def counted(number, thing, things=None, form="d"):
@@ -24,15 +27,20 @@ def command_words(command, names, older=0):
     return "%s %s%s" % ("column" if is_column(command) else "activate", request_words(command, names), passing)
 
 
+def turn_parts(owner, walk, elided, names):
+    """A turn's owner, how many classes its walk tried, and its dead time. A walk of 1 is not said: the class at which the turn starts is its owner then, which tells as much."""
+    return [names.of(owner)] + ["walk of %d" % walk] * (walk != 1) + ["dead time %s" % ("dropped" if elided else "kept")]
+
+
 def turn_words(turn, names, home=None):
-    """A turn number: whose turn starts, whose home turn it is, if that is handed in, and its dead time. An extract hides the turns of others."""
+    """A turn number: whose turn starts, whose home turn it is, if that is handed in, its walk and its dead time. An extract hides the turns of others."""
     owner = owner_of(turn)
     if not 0 <= owner < CLASSES:
         return "turn of a class that may not be seen"
-    parts = ["turn of %s" % names.of(owner), "dead time %s" % ("dropped" if is_elided(turn) else "kept")]
+    parts = turn_parts(owner, walk_of(turn), is_elided(turn), names)
     if home is not None:
         parts.insert(1, "its home turn" if home == owner else "home turn of %s" % names.of(home))
-    return ", ".join(parts)
+    return "turn of " + ", ".join(parts)
 
 
 def refusal_words(status):

@@ -229,6 +229,22 @@ module _ (f g : ℕ → Bool) where
       (λ b. add-lt-add-of-lt-of-le (count-less n (λ i m. h i (omega arith)) k b fails passes) (one-under (f n) (g n) (h n (le-refl (suc n)))))
       (at-or-below l)
 
+-- a test that passes where another does, and at one number more, passes once more
+pub count-added : (f g : ℕ → Bool) (n k : ℕ) → k < n → f k ≡ false → g k ≡ true → ((i : ℕ) → ((i ≡ k) → ⊥) → g i ≡ f i) → count n g ≡ count n f + 1
+unfolding count sum
+count-added f g zero k l fails passes same = absurd (not-suc-le-zero l)
+count-added f g (suc n) k l fails passes same =
+    ⊎-elim
+    (λ q.
+    let here : g n ≡ true = subst (λ (m : ℕ). g m ≡ true) q passes in
+    let gone : f n ≡ false = subst (λ (m : ℕ). f m ≡ false) q fails in
+    let below = count-same g f n (λ i b. same i (λ e. not-suc-le-zero {n = 0} (omega (arith, e, q, b)))) in
+    rw (here, gone) (omega (arith, below)))
+    (λ b.
+    let other : g n ≡ f n = same n (λ e. not-suc-le-zero {n = 0} (omega (arith, e, b))) in
+    rw other (omega (arith, count-added f g n k b fails passes same)))
+    (at-or-below l)
+
 -- ---- sums
 
 -- where two tests never pass together, they pass at no more numbers than there are

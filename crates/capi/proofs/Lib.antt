@@ -2,5 +2,5 @@
 
 -- of a file that is refused or taken
 pub mod Sides
--- of the numbers that a run from a file answers
+-- of the numbers that a run from a file and a bound by one answer
 pub mod Laws

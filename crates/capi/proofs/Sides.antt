@@ -1,4 +1,4 @@
--- A run and an extract by a file: the file is refused, or taken. Each side of the definitions, by the reading's number.
+-- A run, an extract and a bound by a file: the file is refused, or taken. Each side of the definitions, by the reading's number.
 -- Assumes nothing.
 use mathlib.Core.Path.{_≡_, ap}
 use mathlib.Core.Bool.{Bool, cond}
@@ -6,12 +6,14 @@ use mathlib.Core.List.{List}
 use Prim.Native.Nat.{ℕ}
 use borrow.Author.Tests.{eq-eqb, ne-eqb}
 use Rattle.file.specs.File.{readFile}
+use Rattle.policy.specs.Policy.{boundFor}
 use Rattle.policy.specs.declared.Policy.{Policy}
 use Rattle.state.specs.Fresh.{fresh}
 use Rattle.rules.specs.Run.{run, logAfter}
 use Rattle.extract.specs.Extract.{extract, outAfter}
 use Rattle.capi.specs.Runs.{runStatus, runLog}
 use Rattle.capi.specs.Extracts.{fileExtractStatus, fileExtractCount, fileExtractOut}
+use Rattle.capi.specs.Bounds.{fileBoundStatus, fileBound}
 
 module _ (file trace log : List ℕ) where
   abbrev pub held : Policy
@@ -50,3 +52,19 @@ module _ (file : List ℕ) (l : ℕ) (trace log out : List ℕ) where
   pub taken-extract : readFile file .status ≡ 0 → (fileExtractStatus file l trace log out ≡ extract (readFile file .policy) l trace log out .status) × (fileExtractCount file l trace log out ≡ extract (readFile file .policy) l trace log out .count) × (fileExtractOut file l trace log out ≡ outAfter (readFile file .policy) l trace log out)
   unfolding fileExtractStatus fileExtractCount fileExtractOut
   taken-extract none = let e = eq-eqb _ 0 none in (ap status-seen e, ap count-seen e, ap out-seen e)
+
+module _ (file : List ℕ) (c : ℕ) where
+  -- the status and the number of a bound, by whether the file is taken
+  abbrev status-bound : Bool → ℕ
+  status-bound b = cond b (boundFor (readFile file .policy) c .status) (readFile file .status)
+
+  abbrev classes-bound : Bool → ℕ
+  classes-bound b = cond b (boundFor (readFile file .policy) c .classes) 0
+
+  pub refused-bound : (readFile file .status ≡ 0 → ⊥) → (fileBoundStatus file c ≡ readFile file .status) × (fileBound file c ≡ 0)
+  unfolding fileBoundStatus fileBound
+  refused-bound some = let e = ne-eqb _ 0 some in (ap status-bound e, ap classes-bound e)
+
+  pub taken-bound : readFile file .status ≡ 0 → (fileBoundStatus file c ≡ boundFor (readFile file .policy) c .status) × (fileBound file c ≡ boundFor (readFile file .policy) c .classes)
+  unfolding fileBoundStatus fileBound
+  taken-bound none = let e = eq-eqb _ 0 none in (ap status-bound e, ap classes-bound e)

@@ -4,5 +4,7 @@
 pub mod Runs
 -- an extract, by a policy file
 pub mod Extracts
--- which numbers a run answers
+-- W-212: how many classes a walk tries at most, by a policy file
+pub mod Bounds
+-- which numbers a run and such a bound answer
 pub mod Laws

@@ -3,6 +3,7 @@
 ghost use mathlib.Core.Path.{_≡_};
 ghost use Rattle.capi.specs.Runs.{runStatus, runLog};
 ghost use Rattle.capi.specs.Extracts.{fileExtractStatus, fileExtractCount, fileExtractOut};
+ghost use Rattle.capi.specs.Bounds.{fileBoundStatus, fileBound};
 
 // Reads a policy file's bytes, makes its fresh state and runs a trace from it into a log. Answers 0, or 1 to 8 for the file, or 15 for a log that is too short; then
 // nothing is written.
@@ -46,4 +47,22 @@ pub extern "C" fn vigambul_extract(
     let extracted = extract::extract(p, class, trace, log, out);
     *status = extracted.status;
     extracted.count
+}
+
+// Reads a policy file's bytes, and answers how many classes a walk that starts at a class tries at most, the class counted: the number of classes on the longest rising chain
+// from it, 1 to 16. Puts into `status` 0, or 1 to 8 for the file or 9 for the class; then the answer is 0.
+#[no_mangle]
+pub extern "C" fn vigambul_walk_bound(file: &[u8], class: u32, status: &mut u32) -> u32
+    ensures { λ r. ⌜ r ≡ fileBound (now (file .entry)) class ⌝ }
+    ensures { λ r. ⌜ now (status .exit) ≡ fileBoundStatus (now (file .entry)) class ⌝ }
+{
+    let reading = file::read(file);
+    if reading.status != 0 {
+        *status = reading.status;
+        return 0;
+    }
+    let p = reading.policy;
+    let bound = policy::walk_bound(p, class);
+    *status = bound.status;
+    bound.classes
 }

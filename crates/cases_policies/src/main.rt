@@ -37,12 +37,21 @@ pub(crate) fn number_at(list: List, index: usize) -> u32 {
     if index < 160 { list.at[index] } else { 0 }
 }
 
+// Where the changes of the policy stand among a case's own numbers, by its letter.
+fn changes_from(letter: u8) -> usize {
+    match letter {
+        b'x' => 4,
+        b'l' => 1,
+        _ => 0,
+    }
+}
+
 // What the case of a line goes by. The changes of its policy stand after its own numbers.
 fn laid_out(text: &[u8], l: Line) -> Case {
     let own = script::numbers(text, l.numbers);
     let file = script::numbers(text, l.file);
     let reading = policies::reading(file);
-    let from = if l.letter == b'x' { 4 } else { 0 };
+    let from = changes_from(l.letter);
     Case {
         file,
         trace: script::numbers(text, l.trace),
@@ -59,6 +68,7 @@ fn answer(text: &[u8], l: Line, c: Case) {
         b'w' => policies::with(c),
         b'c' => policies::cut(c),
         b'i' => policies::in_range(c),
+        b'l' => policies::longest(c),
         b'x' => extracts::sized(c),
         b'g' => extracts::seen(text, l, c, c.log),
         b'm' => extracts::seen_of_run(text, l, c),

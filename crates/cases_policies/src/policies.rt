@@ -1,10 +1,11 @@
-// Policy files: what reading one answers. Stored policies: those that files give, with numbers of them changed, and whether they are in range.
+// Policy files: what reading one answers. Stored policies: those that files give, with numbers of them changed, whether they are in range, and how long their walks are.
 
 use super::Case;
 use super::least;
 use super::number_at;
 use super::words;
 use file::Reading;
+use policy::Bound;
 use policy::Policy;
 use script::List;
 
@@ -103,4 +104,24 @@ pub(crate) fn in_range(c: Case) {
     } else {
         words(b" no\n");
     }
+}
+
+// How many classes a walk from the case's class tries at most. A refused file gives its number, and 0.
+fn bound(c: Case) -> Bound {
+    let made = reading(c.file);
+    if made.status != 0 {
+        return Bound {
+            status: made.status,
+            classes: 0,
+        };
+    }
+    policy::walk_bound(c.policy, number_at(c.own, 0))
+}
+
+// The same on the case's line, the status first: CLASS.
+pub(crate) fn longest(c: Case) {
+    let answer = bound(c);
+    script::spaced(answer.status as usize);
+    script::spaced(answer.classes as usize);
+    words(b"\n");
 }

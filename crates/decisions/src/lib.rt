@@ -37,16 +37,17 @@ pub fn one_less(left: u32) -> u32
     if left == 0 { 0 } else { left - 1 }
 }
 
-// A started turn's number in the log: 1 and the owner, and 256 more if its dead time is elided. An owner is below 16; another number, of which document 01 says nothing,
-// counts as what it is modulo 16.
-pub fn turn_word(owner: usize, elided: bool) -> u32
-    ensures { λ r. ⌜ r ≡ turnWord (owner % 16) elided ⌝ }
+// A started turn's number in the log: 1 and the owner, 256 more if its dead time is elided, and in bits 16 to 20 how many classes were tried. An owner is below 16 and no more than 16 are tried; another number, of
+// which the papers say nothing, counts as what it is modulo 16, and modulo 32.
+pub fn turn_word(owner: usize, elided: bool, tried: u32) -> u32
+    ensures { λ r. ⌜ r ≡ turnWord (owner % 16) elided (tried % 32) ⌝ }
 {
     let number = (owner % 16) as u32;
+    let field = 65536 * (tried % 32);
     if elided {
-        1 + number + 256
+        1 + number + 256 + field
     } else {
-        1 + number + 0
+        1 + number + 0 + field
     }
 }
 

@@ -19,7 +19,7 @@ abbrev pub printedTrace : List ℕ
 printedTrace = 0x80010007 ∷ 0 ∷ 0 ∷ 0 ∷ []
 
 abbrev pub printedLog : List ℕ
-printedLog = 0 ∷ 0 ∷ 0 ∷ 0 ∷ 0 ∷ 0x80010007 ∷ 0 ∷ 0x101 ∷ 0 ∷ 0xC0010007 ∷ 0 ∷ 0 ∷ 0 ∷ 0 ∷ 0x80010007 ∷ 0 ∷ []
+printedLog = 0 ∷ 0 ∷ 0 ∷ 0 ∷ 0 ∷ 0x80010007 ∷ 0 ∷ 0x10101 ∷ 0 ∷ 0xC0010007 ∷ 0 ∷ 0 ∷ 0 ∷ 0 ∷ 0x80010007 ∷ 0 ∷ []
 
 pub record PrintedExtracts : Type 0 where
   -- where class 0 may be seen, all of it

@@ -12,17 +12,18 @@ use Rattle.basics.proofs.Truth.{either, not-both, false-unless, on-true, on-fal
 use Rattle.policy.proofs.Laws.{policy-laws}
 use Rattle.queues.specs.Waiting.{lengthOf}
 use Rattle.rules.specs.Wire.{gapMet}
-use Rattle.rules.specs.Step.{turnStarts, turnNumber, startTurn, turnsAt, TurnStart}
+use Rattle.rules.specs.Step.{turnStarts, turnNumber, ownedBy, startTurn, turnsAt, TurnStart}
 use Rattle.rules.specs.History.{turnBefore, untilTurn, Activates, Held}
 use Rattle.state.specs.declared.Turns.{Turns}
 use Rattle.flight.specs.declared.Flight.{Flight}
 use Rattle.state.specs.declared.State.{State}
 use Rattle.rules.proofs.Lookahead.{elision}
+use Rattle.rules.proofs.Step.{triedAt}
 use Rattle.rules.proofs.Range.{ranged}
 use Rattle.rules.proofs.Calendar.{until-start, number-start}
 use Rattle.noninterference.proofs.Low.{Downward, EntriesAgree, TurnsAgree, LastsAgree}
 use Rattle.noninterference.proofs.Alike.{Alike}
-use Rattle.noninterference.proofs.Walks.{start-agrees}
+use Rattle.noninterference.proofs.Walks.{traversal-agrees, start-agrees}
 use Rattle.noninterference.proofs.Offers.{same-length}
 
 module _ (p : Policy) (given : policyInRange p ≡ true) (low : ℕ → Bool) (closed : Downward p low) where
@@ -109,3 +110,11 @@ module _ (p : Policy) (given : policyInRange p ≡ true) (low : ℕ → Bool) (c
         subst (λ (x : TurnStart). right x (turnsAt p t (r .queues .lengths) (r .turns))) (sym (on-false starts start-s stay-s e))
         (subst (right stay-s) (sym (on-false starts start-r stay-r e)) (record { turns = alike .turns; lasts = alike .lasts })))
         (either starts)
+
+    -- and where a turn starts, a low owner's traversal has tried as many classes in both
+    pub same-tried : turnStarts p t ≡ true → low (turnsAt p t (s .queues .lengths) (s .turns) .turns .owner) ≡ true → triedAt p t (s .queues .lengths) (s .turns) ≡ triedAt p t (r .queues .lengths) (r .turns)
+    unfolding turnsAt startTurn ownedBy
+    same-tried e i =
+        traversal-agrees p given low closed (turnNumber p t) (s .queues .lengths) (r .queues .lengths) (s .turns) (r .turns) (ranged p s (h .ranges) .turns) (ranged p r (g .ranges) .turns)
+        same-lengths (alike .turns .left) (alike .turns .pointers) .tried
+        (subst (λ (x : TurnStart). low (x .turns .owner) ≡ true) (on-true (turnStarts p t) _ _ e) i)

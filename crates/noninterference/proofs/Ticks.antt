@@ -3,7 +3,7 @@
 use mathlib.Core.Path.{_≡_, refl, sym, ap, ap₂, _∙_, subst}
 use mathlib.Core.Logic.{⊎-elim}
 use mathlib.Core.Bool.{Bool, true, false, cond, not, _&&_}
-use Prim.Native.Nat.{ℕ, _+_, _-_, _%_, _<_}
+use Prim.Native.Nat.{ℕ, _+_, _*_, _-_, _%_, _<_}
 use native.Mathlib.Nat.{not-suc-le-zero}
 use native.Mathlib.Omega.{arith}
 use borrow.Author.Tests.{ne-eqb}
@@ -11,7 +11,7 @@ use lib.Dec.{eqb, lit<}
 use lib.ListN.{length, length-set}
 use Rattle.policy.specs.Policy.{inRange as policyInRange}
 use Rattle.policy.specs.declared.Policy.{Policy}
-use Rattle.basics.proofs.Truth.{not-both, and-fails-right}
+use Rattle.basics.proofs.Truth.{either, not-both, and-fails-right}
 use Rattle.policy.proofs.Laws.{policy-laws}
 use Rattle.requests.specs.Word.{classOf, commandNumber}
 use Rattle.flight.specs.Flight.{dueAt, sentAt}
@@ -22,7 +22,7 @@ use Rattle.rules.specs.History.{Held}
 use Rattle.requests.specs.declared.Wires.{Wires}
 use Rattle.state.specs.declared.Turns.{Turns}
 use Rattle.state.specs.declared.State.{State}
-use Rattle.rules.proofs.Step.{outcome, turn-shown}
+use Rattle.rules.proofs.Step.{outcome, triedAt, turn-shown}
 use Rattle.rules.proofs.TurnsKept.{turns-kept}
 use Rattle.rules.proofs.PendingWords.{inside}
 use Rattle.rules.proofs.Range.{Ranged, ranged, BusRange, bus-range}
@@ -31,7 +31,7 @@ use Rattle.extract.specs.Extract.{hideWord, ownerSeen, hideTurn}
 use Rattle.noninterference.proofs.Low.{Downward, QueuesAgree, queue-back, queue-through, PendingAgree, LastsAgree}
 use Rattle.noninterference.proofs.Alike.{Alike}
 use Rattle.noninterference.proofs.Flights.{stored-both}
-use Rattle.noninterference.proofs.Starts.{Begun, begun}
+use Rattle.noninterference.proofs.Starts.{Begun, begun, same-tried}
 use Rattle.noninterference.proofs.Quiet.{hidden-none, hidden-low, columnShown, quiet-queues, quiet-columns, quiet-responses, quiet-command}
 use Rattle.noninterference.proofs.Shared.{beside, Shared, shared}
 
@@ -42,24 +42,24 @@ still-long b long =
     outcome b (λ d. length (d .flight .responses) ≡ 32) (λ due. long) (λ due e. length-set (b .flight .responses) ((b .cycle + b .timing .response) % 32) (going b) ∙ long) (λ due stays. long)
 
 -- the owner that a turn number names
-named-owner : (owner : ℕ) (elided : Bool) → owner < 16 → (1 + owner + cond elided 256 0) % 256 - 1 ≡ owner
-named-owner owner true small = omega (arith, small)
-named-owner owner false small = omega (arith, small)
+named-owner : (owner : ℕ) (elided : Bool) (tried : ℕ) → owner < 16 → (1 + owner + cond elided 256 0 + 65536 * tried) % 256 - 1 ≡ owner
+named-owner owner true tried small = omega (arith, small)
+named-owner owner false tried small = omega (arith, small)
 
 -- the turn number of a high owner is hidden
-high-turn : (low : ℕ → Bool) (owner : ℕ) (elided : Bool) → owner < 16 → low owner ≡ false → hideTurn low (turnWord owner elided) ≡ 512
+high-turn : (low : ℕ → Bool) (owner : ℕ) (elided : Bool) (tried : ℕ) → owner < 16 → low owner ≡ false → hideTurn low (turnWord owner elided tried) ≡ 512
 unfolding hideTurn ownerSeen turnWord
-high-turn low owner elided small high =
-    let named : (1 + owner + cond elided 256 0) % 256 - 1 ≡ owner = named-owner owner elided small in
-    let w = 1 + owner + cond elided 256 0 in
+high-turn low owner elided tried small high =
+    let w = 1 + owner + cond elided 256 0 + 65536 * tried in
+    let named : w % 256 - 1 ≡ owner = named-owner owner elided tried small in
     ap (λ (b : Bool). cond b 0 (cond (not (eqb (w % 256) 0) && low (w % 256 - 1)) w 512)) (ne-eqb w 0 (λ z. not-suc-le-zero {n = 0} (omega (arith, z))))
     ∙ ap (λ (b : Bool). cond b w 512) (and-fails-right (not (eqb (w % 256) 0)) (low (w % 256 - 1)) (ap low named ∙ high))
 
 -- and 0 where no turn starts
-unseen-turn : (low : ℕ → Bool) (starts : Bool) (owner : ℕ) (elided : Bool) → owner < 16 → low owner ≡ false → hideTurn low (cond starts (turnWord owner elided) 0) ≡ cond starts 512 0
+unseen-turn : (low : ℕ → Bool) (starts : Bool) (owner : ℕ) (elided : Bool) (tried : ℕ) → owner < 16 → low owner ≡ false → hideTurn low (cond starts (turnWord owner elided tried) 0) ≡ cond starts 512 0
 unfolding hideTurn
-unseen-turn low true owner elided small high = high-turn low owner elided small high
-unseen-turn low false owner elided small high = refl
+unseen-turn low true owner elided tried small high = high-turn low owner elided tried small high
+unseen-turn low false owner elided tried small high = refl
 
 module _ (p : Policy) (given : policyInRange p ≡ true) (low : ℕ → Bool) (closed : Downward p low) where
   -- the turns and the command bus, at a cycle told apart from the state's
@@ -200,6 +200,22 @@ module _ (p : Policy) (given : policyInRange p ≡ true) (low : ℕ → Bool) (c
     tick-command = subst (λ (k : ℕ). hideWord low (commandNumber (drivenOf t s .wires)) ≡ hideWord low (commandNumber (drivenOf k r .wires))) (alike .cycles) commands
 
     -- and of the turn
+    abbrev tried : State → ℕ
+    tried x = triedAt p t (x .queues .lengths) (x .turns)
+
+    abbrev turnOf : State → ℕ
+    turnOf x = cond (turnStarts p t) (turnWord (turnsOf t x .owner) (turnsOf t x .elided) (tried x)) 0
+
+    -- at the same low owner the numbers are the same
+    seen-turn : turnsOf t s .owner ≡ turnsOf t r .owner → low (turnsOf t s .owner) ≡ true → turnOf s ≡ turnOf r
+    seen-turn same i =
+        ⊎-elim
+        (λ e.
+        ap₂ (λ (o : ℕ) (b : Bool). cond (turnStarts p t) (turnWord o b (tried s)) 0) same (start .turns .elisions i)
+        ∙ ap (λ (n : ℕ). cond (turnStarts p t) (turnWord (turnsOf t r .owner) (turnsOf t r .elided) n) 0) (same-tried p given low closed s r h g alike e i))
+        (λ e. rw e refl)
+        (either (turnStarts p t))
+
     turns-shown : hideTurn low (startOf t s .shown) ≡ hideTurn low (startOf t r .shown)
     turns-shown =
         let starts = turnStarts p t in
@@ -207,10 +223,10 @@ module _ (p : Policy) (given : policyInRange p ≡ true) (low : ℕ → Bool) (c
         let shown-r = ap (hideTurn low) (turn-shown p t (r .queues .lengths) (r .turns)) in
         shown-s
         ∙ ⊎-elim
-        (λ both. ap₂ (λ (o : ℕ) (b : Bool). hideTurn low (cond starts (turnWord o b) 0)) (both .0) (start .turns .elisions (both .1)))
+        (λ both. ap (hideTurn low) (seen-turn (both .0) (both .1)))
         (λ both.
-        unseen-turn low starts (turnsOf t s .owner) (turnsOf t s .elided) (bus-s .owner-small) (both .0)
-        ∙ sym (unseen-turn low starts (turnsOf t r .owner) (turnsOf t r .elided) (bus-r .owner-small) (both .1)))
+        unseen-turn low starts (turnsOf t s .owner) (turnsOf t s .elided) (tried s) (bus-s .owner-small) (both .0)
+        ∙ sym (unseen-turn low starts (turnsOf t r .owner) (turnsOf t r .elided) (tried r) (bus-r .owner-small) (both .1)))
         (start .turns .owners)
         ∙ sym shown-r
 

@@ -1,4 +1,4 @@
--- A turn's start in two runs that agree on the low classes: the owners agree, and so do turns left and pointers of the low classes; at a low owner the elision too.
+-- A turn's start in two runs that agree on the low classes: the owners agree, and so do turns left and pointers of the low classes; at a low owner the elision too, and how many classes were tried, since all of them are low.
 -- Assumes nothing.
 use mathlib.Core.Path.{_≡_, refl, sym, ap, ap₂, _∙_, subst}
 use mathlib.Core.Logic.{inl, inr, ⊎-elim}
@@ -14,9 +14,9 @@ use Rattle.policy.specs.Policy.{flows, least, homeTurn, homeClass, inRange}
 use Rattle.policy.specs.declared.Policy.{Policy}
 use Rattle.basics.proofs.Truth.{either, false-unless, not-both, and-left, and-fails-left, on-both}
 use Rattle.basics.proofs.Stores.{stored-in-both}
-use Rattle.rules.specs.Traversal.{firstClass, Candidates, candidates, moved, movedPointer, passedAt, named, takesBy, takes, Reached, endsAt, tryClass, charge, takesHome, leftTried, charged}
+use Rattle.rules.specs.Traversal.{firstClass, Candidates, candidates, moved, movedPointer, passedAt, named, takesBy, takes, Reached, endsAt, alsoTried, tryClass, charge, takesHome, leftTried, charged}
 use Rattle.rules.specs.Lookahead.{Ahead, lookingAhead, goesOn, reaches, nextLeft, elides}
-use Rattle.rules.specs.Step.{leftAtStart, ownedBy, startTurn}
+use Rattle.rules.specs.Step.{leftAtStart, ownedBy, traversal, startTurn}
 use Rattle.state.specs.declared.Turns.{Turns}
 use Rattle.rules.proofs.Traversal.{passes-on, try-takes, try-passes, onward, traverse, traversed, passes-small, owner-small, climbs, first-home, first-small, to-cover}
 use Rattle.rules.proofs.Lookahead.{elides-home, elides-other, reach-here, reach-fails, reach-on, look}
@@ -57,9 +57,10 @@ module _ (p : Policy) (given : inRange p ≡ true) (low : ℕ → Bool) (closed 
 
   -- ---- the traversal
 
-  record Walked (r q : Reached) : Type 0 where
-    owners : OwnersAgree low (r .owner) (q .owner)
-    pointers : EntriesAgree low (r .pointers) (q .pointers)
+  pub record Walked (r q : Reached) : Type 0 where
+    pub owners : OwnersAgree low (r .owner) (q .owner)
+    pub pointers : EntriesAgree low (r .pointers) (q .pointers)
+    pub tried : low (r .owner) ≡ true → r .tried ≡ q .tried
 
   module _ (lengths-1 lengths-2 left-1 left-2 : List ℕ) (same-lengths : EntriesAgree low lengths-1 lengths-2) (same-left : EntriesAgree low left-1 left-2) where
     abbrev all-1 : Candidates
@@ -77,7 +78,11 @@ module _ (p : Policy) (given : inRange p ≡ true) (low : ℕ → Bool) (closed 
     apart bound pointers-1 pointers-2 c agree high =
         let one = high-walk lengths-1 left-1 bound pointers-1 c high in
         let two = high-walk lengths-2 left-2 bound pointers-2 c high in
-        record { owners = inr (one .owner, two .owner); pointers = λ d j. one .same d j ∙ agree d j ∙ sym (two .same d j) }
+        record { owners = inr (one .owner, two .owner); pointers = λ d j. one .same d j ∙ agree d j ∙ sym (two .same d j); tried = λ i. absurd (not-both i (one .owner)) }
+
+    -- both have tried one class more
+    one-more : (r q : Reached) → Walked r q → Walked (alsoTried 1 r) (alsoTried 1 q)
+    one-more r q walked = record { owners = walked .owners; pointers = walked .pointers; tried = λ i. ap (λ (n : ℕ). 1 + n) (walked .tried i) }
 
     -- at a low class both do the same
     module _ (pointers-1 pointers-2 : List ℕ) (c : ℕ) (l : c < 16) (long-1 : length pointers-1 ≡ 16) (long-2 : length pointers-2 ≡ 16) (h : EntriesAgree low pointers-1 pointers-2) (i : low c ≡ true) where
@@ -95,7 +100,7 @@ module _ (p : Policy) (given : inRange p ≡ true) (low : ℕ → Bool) (closed 
 
       ends : Walked (endsAt pointers-1 c) (endsAt pointers-2 c)
       unfolding endsAt
-      ends = record { owners = inl (refl, i); pointers = h }
+      ends = record { owners = inl (refl, i); pointers = h; tried = λ i. refl }
 
     same-walk : (bound : ℕ) (pointers-1 : List ℕ) (c : ℕ) (pointers-2 : List ℕ) → c < 16 → length pointers-1 ≡ 16 → length pointers-2 ≡ 16 → EntriesAgree low pointers-1 pointers-2 → low c ≡ true → Walked (tryClass bound all-1 pointers-1 c) (tryClass bound all-2 pointers-2 c)
     unfolding tryClass passedAt
@@ -109,12 +114,16 @@ module _ (p : Policy) (given : inRange p ≡ true) (low : ℕ → Bool) (closed 
         let after-1 = passedAt (p .covers) pointers-1 c in
         let after-2 = passedAt (p .covers) pointers-2 c in
         let agree = still pointers-1 pointers-2 c l long-1 long-2 h i in
-        let second = try-passes all-2 bound pointers-2 c (sym (same-takes c i) ∙ t) ∙ ap (tryClass bound all-2 after-2) (sym (same-next pointers-1 pointers-2 c l long-1 long-2 h i)) in
-        subst (Walked (onward all-1 bound pointers-1 c)) (sym second)
+        let second =
+        try-passes all-2 bound pointers-2 c (sym (same-takes c i) ∙ t)
+        ∙ ap (λ (d : ℕ). alsoTried 1 (tryClass bound all-2 after-2 d)) (sym (same-next pointers-1 pointers-2 c l long-1 long-2 h i))
+        in
+        subst (Walked (alsoTried 1 (onward all-1 bound pointers-1 c))) (sym second)
+        (one-more (onward all-1 bound pointers-1 c) (tryClass bound all-2 after-2 next)
         (⊎-elim
         (rest after-2 (passes-small all-1 (p .rows) (climbs p given) pointers-1 c t) (length-set pointers-1 c _ ∙ long-1) (length-set pointers-2 c _ ∙ long-2) agree)
         (apart bound after-1 after-2 next agree)
-        (either (low next))))
+        (either (low next)))))
 
   walk-agrees : (k : ℕ) (lengths-1 lengths-2 left-1 left-2 pointers-1 pointers-2 : List ℕ) → EntriesAgree low lengths-1 lengths-2 → EntriesAgree low left-1 left-2 → EntriesAgree low pointers-1 pointers-2 → length pointers-1 ≡ 16 → length pointers-2 ≡ 16 → Walked (tryClass 16 (candidates (p .covers) lengths-1 left-1) pointers-1 (firstClass p k)) (tryClass 16 (candidates (p .covers) lengths-2 left-2) pointers-2 (firstClass p k))
   walk-agrees k lengths-1 lengths-2 left-1 left-2 pointers-1 pointers-2 same-lengths same-left same-pointers long-1 long-2 =
@@ -233,6 +242,17 @@ module _ (p : Policy) (given : inRange p ≡ true) (low : ℕ → Bool) (closed 
       ∙ sym (elides-other p k left-2 pointers-2 owner other))
       (either (homeTurn p (k + 1)))
 
+  -- the traversal of a turn
+  pub traversal-agrees : (k : ℕ) (lengths-1 lengths-2 : List ℕ) (t u : Turns) → TurnsRange p t → TurnsRange p u → EntriesAgree low lengths-1 lengths-2 → EntriesAgree low (t .left) (u .left) → EntriesAgree low (t .pointers) (u .pointers) → Walked (traversal p k lengths-1 (t .left) (t .pointers)) (traversal p k lengths-2 (u .left) (u .pointers))
+  unfolding leftAtStart
+  traversal-agrees k lengths-1 lengths-2 t u range-1 range-2 same-lengths same-left same-pointers =
+      let left-1 = leftAtStart p k (t .left) in
+      let left-2 = leftAtStart p k (u .left) in
+      let long-1 = start-within p given k (t .left) (range-1 .left-within) .sixteen in
+      let long-2 = start-within p given k (u .left) (range-2 .left-within) .sixteen in
+      walk-agrees k lengths-1 lengths-2 (leftTried p k left-1) (leftTried p k left-2) (t .pointers) (u .pointers) same-lengths
+      (tried-agree k left-1 left-2 long-1 long-2 (caps-agree (eqb (k % p .epoch) 0) (t .left) (u .left) same-left)) same-pointers (range-1 .pointers-fit .sixteen) (range-2 .pointers-fit .sixteen)
+
   pub start-agrees : (k : ℕ) (lengths-1 lengths-2 : List ℕ) (t u : Turns) → TurnsRange p t → TurnsRange p u → EntriesAgree low lengths-1 lengths-2 → EntriesAgree low (t .left) (u .left) → EntriesAgree low (t .pointers) (u .pointers) → TurnsAgree low (startTurn p k lengths-1 (t .left) (t .pointers) .turns) (startTurn p k lengths-2 (u .left) (u .pointers) .turns)
   unfolding startTurn ownedBy leftAtStart
   start-agrees k lengths-1 lengths-2 t u range-1 range-2 same-lengths same-left same-pointers =
@@ -246,7 +266,7 @@ module _ (p : Policy) (given : inRange p ≡ true) (low : ℕ → Bool) (closed 
       let all-1 = candidates (p .covers) lengths-1 tried-1 in
       let all-2 = candidates (p .covers) lengths-2 tried-2 in
       let agree-left = caps-agree (eqb (k % p .epoch) 0) (t .left) (u .left) same-left in
-      let walked = walk-agrees k lengths-1 lengths-2 tried-1 tried-2 (t .pointers) (u .pointers) same-lengths (tried-agree k left-1 left-2 long-1 long-2 agree-left) same-pointers (range-1 .pointers-fit .sixteen) (range-2 .pointers-fit .sixteen) in
+      let walked = traversal-agrees k lengths-1 lengths-2 t u range-1 range-2 same-lengths same-left same-pointers in
       let r = tryClass 16 all-1 (t .pointers) first in
       let q = tryClass 16 all-2 (u .pointers) first in
       let owner-1 = owner-small all-1 (p .rows) (climbs p given) 16 (t .pointers) first (first-small p given k) in

@@ -4,3 +4,5 @@
 pub mod Order
 -- what reflexive, antisymmetric, transitive and least say of every class
 pub mod Laws
+-- W-212: what the number of classes on the longest rising chain from a class is
+pub mod Chains

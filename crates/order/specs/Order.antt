@@ -2,11 +2,11 @@
 -- those of numbers that are no classes are 0.
 use mathlib.Core.Bool.{Bool, cond, not, _&&_, _||_}
 use mathlib.Core.List.{List}
-use Prim.Native.Nat.{ℕ}
+use Prim.Native.Nat.{ℕ, zero, suc}
 use lib.Dec.{ltb, eqb}
 use lib.ListN.{getD}
 use Rattle.basics.specs.Below.{every, some, first, count, setOf}
-use Rattle.masks.specs.Mask.{member, belowMask, includes}
+use Rattle.masks.specs.Mask.{member, belowMask, includes, classMask}
 
 -- "n (1 to 16)": a class is a number below the class count. What a policy stores of its classes is n, and this alone says which numbers are among them.
 unfoldable pub isClassIn : ℕ → ℕ → Bool
@@ -80,3 +80,14 @@ coverSet rows i = setOf 16 (coversIn rows i)
 -- how many classes are strictly above i
 unfoldable pub aboveIn : List ℕ → ℕ → ℕ
 aboveIn rows i = count 16 (strictlyIn rows i)
+
+-- ---- W-212: rising chains
+
+-- the classes at the end of the rising chains of so many steps from class i, each step from a class to one strictly above it
+unfoldable pub risenTo : List ℕ → ℕ → ℕ → ℕ
+risenTo rows i zero = classMask i
+risenTo rows i (suc steps) = aboveSome rows (risenTo rows i steps)
+
+-- W-212: "the number of classes on the longest rising chain from" class i, the class counted: the first number of steps that no such chain has
+unfoldable pub longestIn : List ℕ → ℕ → ℕ
+longestIn rows i = first 16 (λ steps. eqb (risenTo rows i steps) 0)

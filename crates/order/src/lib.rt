@@ -3,7 +3,7 @@
 
 ghost use mathlib.Core.Path.{_≡_};
 ghost use lib.ListN.{getD};
-ghost use Rattle.order.specs.Order.{isClassIn, classSet, flowsIn, strictlyIn, rowFits, rowsFit, antisymmetricAt, antisymmetric, transitiveAt, transitive, leastAt, leastIn, hasLeast, aboveSet, aboveSome, coverSet, aboveIn};
+ghost use Rattle.order.specs.Order.{isClassIn, classSet, flowsIn, strictlyIn, rowFits, rowsFit, antisymmetricAt, antisymmetric, transitiveAt, transitive, leastAt, leastIn, hasLeast, aboveSet, aboveSome, coverSet, aboveIn, longestIn};
 
 // A class's row. What a number above 15 has is open in document 01: 0 here.
 pub fn row_of(rows: [u16; 16], class: usize) -> u16
@@ -181,4 +181,20 @@ pub fn above_in(rows: [u16; 16], class: usize) -> usize
     ensures { λ r. ⌜ r ≡ aboveIn rows class ⌝ }
 {
     masks::size(above_set(rows, class))
+}
+
+// W-212: the number of classes on the longest rising chain from a class, the class counted. Of a number above 15, which document 02 leaves open, 0.
+pub fn longest_in(rows: [u16; 16], class: usize) -> u32
+    ensures { λ r. ⌜ r ≡ longestIn rows class ⌝ }
+{
+    let mut risen = masks::class_mask(class);
+    let mut steps = 0u32;
+    while steps < 16 {
+        if risen == 0 {
+            return steps;
+        }
+        risen = above_some(rows, risen);
+        steps += 1;
+    }
+    16
 }

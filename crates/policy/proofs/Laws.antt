@@ -25,6 +25,7 @@ use Rattle.basics.proofs.Below.{lt-or-ge, every-at, some-at, some-found, first-
 use Rattle.masks.proofs.Masks.{member-zero, member-over, member-setOf, setOf-below}
 use Rattle.order.proofs.Orders as orders
 use Rattle.masks.proofs.Numbered as numbered
+use Rattle.policy.proofs.Chains.{chain-laws}
 use Rattle.policy.proofs.Homes.{home-laws}
 
 -- ---- what the tests are
@@ -463,6 +464,7 @@ policy-laws p given =
       lowest = least-laws p given;
       covering = cover-laws p given;
       higher = above-laws p given;
+      chains = chain-laws p given (order-laws p given) (least-laws p given) (cover-laws p given) (above-laws p given);
       capped = cap-laws p given;
       homes = home-laws p (order-laws p given) (least-laws p given) (cap-laws p given) (within-epoch p given) (no-minimum p given);
       timed = timing-laws (p .timing) (tests p given .timing);

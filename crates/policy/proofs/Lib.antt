@@ -4,3 +4,5 @@
 pub mod Laws
 -- of the home turns of one
 pub mod Homes
+-- of the longest rising chains in one
+pub mod Chains

@@ -9,8 +9,9 @@ use lib.ListN.{length, getD}
 use Rattle.basics.specs.Below.{sum, count}
 use Rattle.masks.specs.Mask.{member}
 use Rattle.order.specs.Laws.{Reflexive, Least}
+use Rattle.order.specs.Chains.{Longest}
 use Rattle.turns.specs.Turns.{minimumsSum, minimumsAbove, freeTurns, homePlace, minimumsBelow}
-use Rattle.policy.specs.Policy.{isClass, flows, strictly, least, above, coversOf, coverCount, cover, cap, minimum, homeTurn, homeClass}
+use Rattle.policy.specs.Policy.{isClass, flows, strictly, least, above, coversOf, coverCount, cover, cap, minimum, homeTurn, homeClass, walkBound, boundFor, longestWalk}
 use Rattle.timing.specs.declared.Timing.{Timing}
 use Rattle.policy.specs.declared.Policy.{Policy}
 
@@ -57,6 +58,20 @@ pub record AboveLaws (p : Policy) : Type 0 where
   pub few : (i : ℕ) → above p i < 16
   -- nothing is above a class exactly if it has no cover
   pub topmost : (i : ℕ) → (above p i ≡ 0) ↔ (coverCount p i ≡ 0)
+
+-- W-212: "the number of classes on the longest rising chain from the walk's first class"
+pub record ChainLaws (p : Policy) : Type 0 where
+  -- there is a chain of so many, and none is longer
+  pub longest : (c : ℕ) → isClass p c ≡ true → Longest (p .rows) c (walkBound p c)
+  pub bounds : (c : ℕ) → isClass p c ≡ true → (1 ≤ walkBound p c) × (walkBound p c ≤ 16)
+  -- less remains from a class strictly above
+  pub falls : (c j : ℕ) → strictly p c j ≡ true → walkBound p j < walkBound p c
+  -- a longest chain goes on by a cover, and what is left of it is a longest chain from there; where there is no cover, the class is alone on it
+  pub to-cover : (c : ℕ) → isClass p c ≡ true
+      → ((coversOf p c ≡ 0) × (walkBound p c ≡ 1)) ⊎ ((j : ℕ) × (member (coversOf p c) j ≡ true) × (walkBound p j + 1 ≡ walkBound p c))
+  -- none is longer than that from the least class, and so is no answer greater than the one of it
+  pub from-least : (c : ℕ) → isClass p c ≡ true → walkBound p c ≤ walkBound p (least p)
+  pub greatest : (c : ℕ) → boundFor p c .classes ≤ longestWalk p .classes
 
 -- "A class's cap is E less the minimums of all classes strictly above it."
 pub record CapLaws (p : Policy) : Type 0 where
@@ -105,6 +120,7 @@ pub record PolicyLaws (p : Policy) : Type 0 where
   pub lowest : LeastLaws p
   pub covering : CoverLaws p
   pub higher : AboveLaws p
+  pub chains : ChainLaws p
   pub capped : CapLaws p
   pub homes : HomeLaws p
   pub timed : TimingLaws (p .timing)

@@ -1,15 +1,16 @@
 -- The policy as a value: what of it is refused, and when it is in range.
-use mathlib.Core.Bool.{Bool, true, false, _&&_, _||_}
+use mathlib.Core.Bool.{Bool, true, false, cond, _&&_, _||_}
 use mathlib.Core.List.{List, [], _∷_}
 use Prim.Native.Nat.{ℕ, suc}
 use lib.Dec.{ltb, eqb}
 use lib.ListN.{length, getD}
 use Rattle.basics.specs.Below.{every}
 use Rattle.masks.specs.Mask.{size, nth}
-use Rattle.order.specs.Order.{isClassIn, flowsIn, strictlyIn, rowsFit, antisymmetric, transitive, hasLeast, leastIn, coverSet, aboveIn}
+use Rattle.order.specs.Order.{isClassIn, flowsIn, strictlyIn, rowsFit, antisymmetric, transitive, hasLeast, leastIn, coverSet, aboveIn, longestIn}
 use Rattle.turns.specs.Turns.{turnsSound, capIn, homeTurnIn, homePlace, homeAt}
 use Rattle.timing.specs.Timing.{timingSound, within}
 use Rattle.policy.specs.declared.Policy.{Policy}
+use Rattle.policy.specs.declared.Bound.{Bound}
 
 -- i is a class of this policy
 unfoldable pub isClass : Policy → ℕ → Bool
@@ -106,3 +107,21 @@ shaped p =
 -- the policy's part of 13: "a policy that 2 to 8 would refuse, or whose stored children or caps are not its order's"
 unfoldable pub inRange : Policy → Bool
 inRange p = shaped p && within 1 (p .classes) 16 && eqb (refusal p) 0 && allStoredFits p
+
+-- ---- W-212: how long a walk is
+
+-- "the number of classes on the longest rising chain from the walk's first class": how many classes a walk from c tries at most, c counted
+unfoldable pub walkBound : Policy → ℕ → ℕ
+walkBound p c = longestIn (p .rows) c
+
+-- what refuses the question: 13, a policy out of range; then 9, "class not below n". 0 where neither does.
+unfoldable pub boundStatus : Policy → ℕ → ℕ
+boundStatus p c = cond (inRange p) (cond (isClass p c) 0 9) 13
+
+-- the answer: the bound, and 0 where the question is refused
+unfoldable pub boundFor : Policy → ℕ → Bound
+boundFor p c = record { status = boundStatus p c; classes = cond (eqb (boundStatus p c) 0) (walkBound p c) 0 }
+
+-- "Hardware must finish the walk in one cycle": the bound from the least class, since no walk has a greater one. Only 13 refuses it.
+unfoldable pub longestWalk : Policy → Bound
+longestWalk p = record { status = cond (inRange p) 0 13; classes = cond (inRange p) (walkBound p (least p)) 0 }

@@ -1,7 +1,7 @@
 // The policy: which classes there are, which may flow to which, and the turns and timing that go with them.
 
 ghost use mathlib.Core.Path.{_≡_};
-ghost use Rattle.policy.specs.Policy.{flows, strictly, least, above, coversOf, coverCount, cover, cap, refusal, storedFits, allStoredFits, inRange};
+ghost use Rattle.policy.specs.Policy.{flows, strictly, least, above, coversOf, coverCount, cover, cap, refusal, storedFits, allStoredFits, inRange, boundFor, longestWalk};
 use timing::Timing;
 
 // A policy. Its arrays have an entry for each of the sixteen class numbers; those at and above the class count are 0.
@@ -19,6 +19,12 @@ pub struct Policy {
     pub covers: [u16; 16],
     // How many turns of an epoch each class may take.
     pub caps: [u32; 16],
+}
+
+// How many classes a walk tries at most, and the status: 0, or the number that refuses the question; then the bound is 0.
+pub struct Bound {
+    pub status: u32,
+    pub classes: u32,
 }
 
 // Whether class i may flow to class j. Of a number that is no class, which document 01 leaves open: in a policy in range it flows nowhere, and nothing flows to it.
@@ -141,4 +147,44 @@ pub fn in_range(p: Policy) -> bool
     ensures { λ r. ⌜ r ≡ inRange p ⌝ }
 {
     (1 <= p.classes) & (p.classes <= 16) & (refusal(p) == 0) & all_stored_fits(p)
+}
+
+// The answers of `walk_bound`, of a class number as the arrays have it.
+fn bound_for(p: Policy, class: usize) -> Bound
+    ensures { λ r. ⌜ r ≡ boundFor p class ⌝ }
+{
+    if !in_range(p) {
+        return Bound {
+            status: 13,
+            classes: 0,
+        };
+    }
+    if !order::is_class(p.classes, class) {
+        return Bound {
+            status: 9,
+            classes: 0,
+        };
+    }
+    let rows = p.rows;
+    Bound {
+        status: 0,
+        classes: order::longest_in(rows, class),
+    }
+}
+
+// W-212: how many classes a walk that starts at a class tries at most, the class counted: the number of classes on the longest rising chain from it, 1 to 16. A policy out of
+// range answers 13, and a number that is none of the policy's classes 9.
+pub fn walk_bound(p: Policy, class: u32) -> Bound
+    ensures { λ r. ⌜ r ≡ boundFor p class ⌝ }
+{
+    bound_for(p, class as usize)
+}
+
+// W-212: how many classes any walk tries at most, which is how many one from the least class does: what hardware must be able to do in one cycle. A policy out of range
+// answers 13.
+pub fn longest_walk(p: Policy) -> Bound
+    ensures { λ r. ⌜ r ≡ longestWalk p ⌝ }
+{
+    let lowest = least(p);
+    bound_for(p, lowest)
 }

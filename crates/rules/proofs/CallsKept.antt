@@ -40,7 +40,7 @@ use Rattle.state.specs.declared.Ticked.{Ticked}
 use Rattle.requests.proofs.Word.{rank-small, bank-held, class-back, rank-back, kind-back, bank-back, is-offer, wires-activate, wires-column}
 use Rattle.rules.proofs.Queue as waiting
 use Rattle.rules.proofs.Wire.{gap-shift, gap-new, gap-none, stored-new, Before}
-use Rattle.rules.proofs.Range.{sound-offer, fit-bounds, fit-back, sound-kind, ranks-few, QueueRange, QueuesRange, Fits, FlightRange, Ranged, ranged, in-range, BusRange, bus-range, goes-waits, goes-past, goes-sound, request-shown, due-offer, column-shown}
+use Rattle.rules.proofs.Range.{sound-offer, fit-bounds, fit-back, sound-kind, ranks-few, QueueRange, QueuesRange, Within, Fits, FlightRange, Ranged, ranged, in-range, BusRange, bus-range, goes-waits, goes-past, goes-sound, request-shown, due-offer, column-shown}
 use Rattle.rules.proofs.PendingWords.{Later}
 use Rattle.rules.proofs.FlightKept.{columns-next, responses-next, activates-next}
 use Rattle.rules.proofs.Step.{outcome}
@@ -305,31 +305,43 @@ offer-ranged p s r w =
       flight = w .flight;
     }
 
-pub fresh-ranged : (p : Policy) → policyInRange p ≡ true → Ranged p (freshState p)
-unfolding freshState stateAtStart emptyQueues nothingInFlight zeros
-fresh-ranged p given =
+-- a state at some cycle in which nobody waits, nothing is on its way and nothing was activated, with turns left at the caps
+abbrev pub idleAt : Policy → ℕ → List ℕ → State
+idleAt p t pointers =
+    record {
+      cycle = t;
+      classes = p .classes;
+      queues = emptyQueues;
+      turns = record { owner = 0; elided = false; left = p .caps; pointers = pointers };
+      flight = nothingInFlight;
+    }
+
+pub idle-ranged : (p : Policy) → policyInRange p ≡ true → (t : ℕ) → t ≤ lastCycle → (pointers : List ℕ) → Within (coverCount p) pointers → Ranged p (idleAt p t pointers)
+unfolding emptyQueues nothingInFlight zeros
+idle-ranged p given t early pointers fit =
     let laws = policy-laws p given in
     record {
       fit = given;
       same-count = refl;
-      cycle-bound = zero-le;
+      cycle-bound = early;
       queues = record { slots-long = refl; heads-long = refl; lengths-long = refl; passed-long = refl; queue = λ c l. empty-queue (p .classes) (p .timing .ranks) c };
-      turns =
-          record {
-            owner-class = laws .order .zero-class;
-            left-within = caps-within p given;
-            pointers-fit = record { sixteen = refl; within = λ j l. subst (λ (k : ℕ). k ≤ coverCount p j) (sym (zero-at 16 j)) zero-le };
-          };
+      turns = record { owner-class = laws .order .zero-class; left-within = caps-within p given; pointers-fit = fit };
       flight =
           record {
             columns-long = refl;
             responses-long = refl;
             banks-long = refl;
-            activates-before = record { of-all = (refl, gap-none 1 0); of-bank = λ b l. subst (Before 0) (sym (zero-at 32 b)) (refl, gap-none 1 0) };
-            columns-due = λ d l. inl (none-due (0 + d));
-            responses-due = λ d l. inl (none-due (0 + d));
+            activates-before = record { of-all = (refl, gap-none 1 t); of-bank = λ b l. subst (Before t) (sym (zero-at 32 b)) (refl, gap-none 1 t) };
+            columns-due = λ d l. inl (none-due (t + d));
+            responses-due = λ d l. inl (none-due (t + d));
           };
     }
+
+-- a fresh state is such a one
+pub fresh-ranged : (p : Policy) → policyInRange p ≡ true → Ranged p (freshState p)
+unfolding freshState stateAtStart zeros
+fresh-ranged p given =
+    idle-ranged p given 0 zero-le (zeros 16) (record { sixteen = refl; within = λ j l. subst (λ (k : ℕ). k ≤ coverCount p j) (sym (zero-at 16 j)) zero-le })
 
 -- ---- in the words of 13
 

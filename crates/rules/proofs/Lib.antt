@@ -54,3 +54,5 @@ pub mod Guarantees
 pub mod Overtaking
 -- of ranks, as `specs/Ranks.antt` states it
 pub mod Ranks
+-- of how long a walk is, as `specs/WalkLength.antt` states it
+pub mod WalkLength

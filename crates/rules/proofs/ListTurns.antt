@@ -26,9 +26,10 @@ use Rattle.state.specs.Fresh.{stateAtStart, freshState}
 use Rattle.state.specs.declared.State.{State}
 use Rattle.state.specs.declared.Turns.{Turns}
 use Rattle.rules.specs.Traversal.{firstClass, Reached, endsAt, leftTried, takesHome}
-use Rattle.rules.specs.Step.{turnStarts, turnNumber, leftAtStart, turnWord, TurnStart, ownedBy, startTurn, turnsAt, Bus, goesAt, drive}
+use Rattle.rules.specs.Step.{turnStarts, turnNumber, leftAtStart, turnWord, TurnStart, ownedBy, traversal, startTurn, turnsAt, Bus, goesAt, drive}
 use Rattle.rules.specs.Call.{busAt, afterTick}
 use Rattle.rules.specs.Calls.{Answer, ticked, answerTo, stateAfter}
+use Rattle.rules.specs.RoundRobin.{tickTries}
 use Rattle.rules.specs.Guarantees.{ticksIn, atTick, firstTick, Started, Waits, owns}
 use Rattle.rules.proofs.Traversal.{first-home, first-least, least-takes, first-class, home-takes, ascends}
 use Rattle.rules.proofs.Queue.{dequeue-else, dequeue-apart}
@@ -41,10 +42,10 @@ use Rattle.rules.proofs.Calls.{after-in-range}
 use Rattle.rules.proofs.ListTicks.{Grown, grown-none, grown-more, Made, made}
 
 -- a turn number in the log names the owner
-word-owner : (o : ℕ) (b : Bool) → o < 16 → turnWord o b % 256 ≡ o + 1
+word-owner : (o : ℕ) (b : Bool) (tried : ℕ) → o < 16 → turnWord o b tried % 256 ≡ o + 1
 unfolding turnWord
-word-owner o true l = omega (arith, l)
-word-owner o false l = omega (arith, l)
+word-owner o true tried l = omega (arith, l)
+word-owner o false tried l = omega (arith, l)
 
 -- the wires leave the queue of a class that does not own the turn
 driven-beside : (b : Bus) (c : ℕ) → ((b .owner ≡ c) → ⊥) → Grown (b .queues) (drive b .queues) c
@@ -64,11 +65,11 @@ module _ (p : Policy) (given : policyInRange p ≡ true) where
 
   -- ---- turns and ticks
 
-  starts-there : (k : ℕ) → turnStarts p (firstTick p k) ≡ true
+  pub starts-there : (k : ℕ) → turnStarts p (firstTick p k) ≡ true
   unfolding turnStarts
   starts-there k = eq-eqb (k * turn % turn) 0 (mul-mod-left k turn)
 
-  number-there : (k : ℕ) → turnNumber p (firstTick p k) ≡ k
+  pub number-there : (k : ℕ) → turnNumber p (firstTick p k) ≡ k
   unfolding turnNumber
   number-there k = mul-div-cancel k some-turn
 
@@ -165,8 +166,9 @@ module _ (p : Policy) (given : policyInRange p ≡ true) where
       abbrev pub there : State
       there = atTick p ws (firstTick p k)
 
-      abbrev tried : List ℕ
-      tried = leftTried p k (leftAtStart p k (there .turns .left))
+      -- its traversal
+      abbrev pub walk : Reached
+      walk = traversal p k (there .queues .lengths) (there .turns .left) (there .turns .pointers)
 
       abbrev pub started : TurnStart
       started = startTurn p k (there .queues .lengths) (there .turns .left) (there .turns .pointers)
@@ -183,15 +185,25 @@ module _ (p : Policy) (given : policyInRange p ≡ true) where
       -- it is owned by a class that the first one may flow to
       pub from-first : flows p (firstClass p k) owner ≡ true
       unfolding startTurn ownedBy
-      from-first = ascends p given 16 (there .queues .lengths) tried (there .turns .pointers) (firstClass p k) (first-class p given k)
+      from-first = ascends p given 16 (there .queues .lengths) (leftTried p k (leftAtStart p k (there .turns .left))) (there .turns .pointers) (firstClass p k) (first-class p given k)
 
       pub owner-here : owner < 16
       owner-here = policy-laws p given .order .class-small owner (policy-laws p given .order .to-class (firstClass p k) owner from-first)
 
-      -- the log's number names it
-      named : Started p ws k → answerTo p there 0 .turn % 256 ≡ owner + 1
+      -- the log's number of it
+      pub shows : Started p ws k → answerTo p there 0 .turn ≡ turnWord owner (started .turns .elided) (walk .tried)
       unfolding startTurn ownedBy
-      named l = ap (λ (x : ℕ). x % 256) (shown-is (firstTick p k) l ∙ ap (λ (r : TurnStart). r .shown) begun-is) ∙ word-owner owner (started .turns .elided) owner-here
+      shows l = shown-is (firstTick p k) l ∙ ap (λ (r : TurnStart). r .shown) begun-is
+
+      pub tries : Started p ws k → tickTries p there ≡ walk .tried
+      unfolding tickTries
+      tries l =
+          ap (λ (j : ℕ). traversal p j (there .queues .lengths) (there .turns .left) (there .turns .pointers) .tried)
+          (ap (turnNumber p) (at (firstTick p k) l .number) ∙ number-there k)
+
+      -- names it
+      named : Started p ws k → answerTo p there 0 .turn % 256 ≡ owner + 1
+      named l = ap (λ (x : ℕ). x % 256) (shows l) ∙ word-owner owner (started .turns .elided) (walk .tried) owner-here
 
       pub owned : (c : ℕ) → owns p ws c k ≡ true → owner ≡ c
       unfolding owns

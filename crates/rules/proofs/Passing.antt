@@ -1,21 +1,23 @@
--- What a traversal tries and what it passes on from: its steps, that it ends at each class that it tries or passes on from it, and that it passes on from a class once at most, since it only rises.
+-- What a traversal tries and what it passes on from: its steps, that it ends at each class that it tries or passes on from it, that it passes on from a class once at most, since it only rises, and so how many it tries.
 -- Assumes nothing.
 use mathlib.Core.Path.{_≡_, refl, sym, ap, _∙_, subst}
 use mathlib.Core.Logic.{inl, inr, ⊎-elim}
 use mathlib.Core.Bool.{Bool, true, false, cond, _||_}
 use mathlib.Core.List.{List}
-use Prim.Native.Nat.{ℕ, zero, suc, _≤_, _<_}
+use Prim.Native.Nat.{ℕ, zero, suc, _+_, _≤_, _<_}
 use native.Mathlib.Nat.{lt-irrefl, le-refl}
 use native.Mathlib.Omega.{arith}
 use borrow.Author.Tests.{eqb-true, eq-eqb, ne-eqb}
 use lib.Dec.{eqb}
 use lib.ListN.{getD}
 use Rattle.order.specs.Order.{aboveIn}
+use Rattle.basics.specs.Below.{count}
+use Rattle.basics.proofs.Below.{count-all-fail, count-added}
 use Rattle.basics.proofs.Truth.{either, not-both, or-left, or-right, or-fails, or-cases, on-true, on-false}
 use Rattle.rules.specs.Traversal.{Candidates, passedAt, named, takes, Reached, endsAt, tryClass}
 use Rattle.rules.specs.Climb.{Climbs}
 use Rattle.rules.specs.RoundRobin.{passesOn, passesTo, Tries}
-use Rattle.rules.proofs.Traversal.{passes-on, try-takes, try-passes, traversed, falls}
+use Rattle.rules.proofs.Traversal.{passes-on, try-takes, try-passes, traversed, falls, passes-small}
 
 module _ (all : Candidates) where
   abbrev after : List ℕ → ℕ → List ℕ
@@ -145,4 +147,25 @@ module _ (all : Candidates) where
         ∙ or-fails (eqb from owner) (passesOn bound all (after pointers from) (next pointers from) owner)
         (ne-eqb from owner (λ e. lt-irrefl (aboveIn rows from) (omega (arith, ap (aboveIn rows) e, falls all rows order pointers from t, ends-higher bound (after pointers from) (next pointers from)))))
         (owner-keeps bound (after pointers from) (next pointers from)))
+        (either (takes all from))
+
+    -- W-212: it tries each class that it passes on from, and the owner
+    pub tried-counted : (bound : ℕ) (pointers : List ℕ) (from : ℕ) → from < 16 → tryClass bound all pointers from .tried ≡ count 16 (passesOn bound all pointers from) + 1
+    unfolding tryClass endsAt passesOn
+    tried-counted zero pointers from small = sym (ap (λ (n : ℕ). n + 1) (count-all-fail (passesOn zero all pointers from) 16 (λ c l. refl)))
+    tried-counted (suc bound) pointers from small =
+        ⊎-elim
+        (λ t.
+        ap (λ (r : Reached). r .tried) (try-takes all (suc bound) pointers from t)
+        ∙ sym (ap (λ (n : ℕ). n + 1) (count-all-fail (passesOn (suc bound) all pointers from) 16 (λ c l. on-takes (suc bound) pointers from c t))))
+        (λ t.
+        let onward = passesOn bound all (after pointers from) (next pointers from) in
+        let higher = falls all rows order pointers from t in
+        let rest = tried-counted bound (after pointers from) (next pointers from) (passes-small all rows order pointers from t) in
+        let others : (c : ℕ) → ((c ≡ from) → ⊥) → passesOn (suc bound) all pointers from c ≡ onward c =
+        λ c apart. on-passes bound pointers from c t ∙ ap (λ (b : Bool). b || onward c) (ne-eqb from c (λ e. apart (sym e)))
+        in
+        let here = on-passes bound pointers from from t ∙ or-left (eqb from from) (onward from) (eq-eqb from from refl) in
+        let more = count-added onward (passesOn (suc bound) all pointers from) 16 from small (never-back bound (after pointers from) (next pointers from) from higher) here others in
+        ap (λ (r : Reached). r .tried) (try-passes all bound pointers from t) ∙ omega (arith, rest, more))
         (either (takes all from))

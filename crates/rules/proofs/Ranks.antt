@@ -31,7 +31,8 @@ use Rattle.state.specs.Fresh.{freshState, stateAtStart, nothingInFlight}
 use Rattle.state.specs.Range.{inRange}
 use Rattle.state.specs.declared.State.{State}
 use Rattle.rules.proofs.Wire.{next-new, rank-new, some-new}
-use Rattle.rules.proofs.Step.{turn-shown, outcome}
+use Rattle.rules.proofs.Traversal.{tried-few}
+use Rattle.rules.proofs.Step.{triedAt, turn-shown, outcome}
 use Rattle.rules.proofs.Range.{sound-offer, sound-bank, sound-kind, sound-rank, right-sound, ranged, BusRange, goes-sound, goes-met, request-shown, column-shown, column-no-request}
 use Rattle.rules.proofs.CallsKept.{tick-bus, fresh-fits}
 use Rattle.rules.proofs.SingleCalls.{any-call}
@@ -171,11 +172,11 @@ status-low true false c = lit< tt
 status-low false b c = lit< tt
 
 -- and a turn's number
-turn-low : (p : Policy) (t owner : ℕ) (elided : Bool) → owner < 16 → cond (turnStarts p t) (turnWord owner elided) 0 < 4194304
+turn-low : (p : Policy) (t owner : ℕ) (elided : Bool) (tried : ℕ) → owner < 16 → tried ≤ 17 → cond (turnStarts p t) (turnWord owner elided tried) 0 < 4194304
 unfolding turnWord
-turn-low p t owner elided small =
+turn-low p t owner elided tried small few =
     let most : cond elided 256 0 ≤ 256 = ⊎-elim (λ e. rw e (omega arith)) (λ e. rw e (omega arith)) (either elided) in
-    ⊎-elim (λ e. rw e (omega (arith, small, most))) (λ e. rw e (lit< tt)) (either (turnStarts p t))
+    ⊎-elim (λ e. rw e (omega (arith, small, few, most))) (λ e. rw e (lit< tt)) (either (turnStarts p t))
 
 -- bit 30 is none of them
 column-rank : (w : ℕ) → rankOf (columnNumber w) ≡ rankOf w
@@ -244,7 +245,7 @@ module _ (p : Policy) (one : p .timing .ranks ≡ 1) where
           response = response-zero;
           turn =
               ap rankOf (turn-shown p (s .cycle) (s .queues .lengths) (s .turns))
-              ∙ low-bits _ (turn-low p (s .cycle) (start .turns .owner) (start .turns .elided) (range p s fits .owner-small));
+              ∙ low-bits _ (turn-low p (s .cycle) (start .turns .owner) (start .turns .elided) (triedAt p (s .cycle) (s .queues .lengths) (s .turns)) (range p s fits .owner-small) (tried-few _ 16 (s .turns .pointers) _));
         })
         (λ late. record { status = low-bits 12 (lit< tt); command = none; response = none; turn = none })
         (λ w other offer.

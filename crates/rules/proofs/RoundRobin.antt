@@ -34,7 +34,7 @@ use Rattle.rules.specs.Lookahead.{reaches, nextLeft, aheadOf}
 use Rattle.rules.specs.Step.{turnStarts, turnNumber, leftAtStart, turnWord, TurnStart, ownedBy, startTurn, turnsAt}
 use Rattle.rules.specs.Call.{offerOn, afterTick, tick}
 use Rattle.rules.specs.Calls.{Answer, answer, answerTo, stateAfter}
-use Rattle.rules.specs.RoundRobin.{passesOn, passesTo, seenAt, triedFirst, tickStarts, tickPasses, tickPassesTo, turnsAfter, Shows, callPasses, passedTurns, inTurn, RoundRobin, Tries, TriesOwner, nextTurn, TrialFollows, HomeTurns}
+use Rattle.rules.specs.RoundRobin.{passesOn, passesTo, seenAt, triedFirst, tickStarts, tickPasses, tickPassesTo, tickTries, turnsAfter, Shows, callPasses, passedTurns, inTurn, RoundRobin, Tries, TriesOwner, nextTurn, TrialFollows, HomeTurns}
 use Rattle.rules.proofs.Traversal.{moved-names, try-takes, try-passes, falls, climbs, first-least, tried-other, first-home, home-takes}
 use Rattle.rules.proofs.Passing.{on-takes, on-passes, to-passes, on-later, first-tried, next-tried, passes-full, never-back, owner-keeps}
 use Rattle.rules.proofs.Lookahead.{elides-home, elides-other, follows, leads}
@@ -224,15 +224,15 @@ module _ (p : Policy) (given : policyInRange p ≡ true) where
     started = startTurn p (turnNumber p (s .cycle)) (s .queues .lengths) (s .turns .left) (s .turns .pointers)
 
     -- what holds of a turn's start holds of the tick's turns and its turn number
-    at-start : tickStarts p s ≡ true → (P : Turns → ℕ → Type 0) → P (started .turns) (started .shown) → P (turnsAfter p s) (answerTo p s 0 .turn)
+    pub at-start : tickStarts p s ≡ true → (P : Turns → ℕ → Type 0) → P (started .turns) (started .shown) → P (turnsAfter p s) (answerTo p s 0 .turn)
     unfolding afterTick turnsAt
     at-start h P holds =
         subst (λ (a : Answer). P (a .state .turns) (a .turn)) (sym (tick-answered p s fits (and-left (ltb (s .cycle) lastCycle) (turnStarts p (s .cycle)) h)))
         (subst (λ (t : TurnStart). P (t .turns) (t .shown)) (sym (on-true (turnStarts p (s .cycle)) _ _ (and-right (ltb (s .cycle) lastCycle) (turnStarts p (s .cycle)) h))) holds)
 
-    owner-shown : tickStarts p s ≡ true → (d : ℕ) → owner ≡ d → Shows p s d
-    unfolding startTurn ownedBy
-    owner-shown h d o = at-start h (λ turns shown. shown ≡ turnWord d (turns .elided)) (ap (λ (x : ℕ). turnWord x (started .turns .elided)) o)
+    pub owner-shown : tickStarts p s ≡ true → (d : ℕ) → owner ≡ d → Shows p s d
+    unfolding startTurn ownedBy tickTries
+    owner-shown h d o = at-start h (λ turns shown. shown ≡ turnWord d (turns .elided) (tickTries p s)) (ap (λ (x : ℕ). turnWord x (started .turns .elided) (tickTries p s)) o)
 
     -- from the traversal to the log
     seen : tickStarts p s ≡ true → (d : ℕ) → Tries 16 (seenAt p s) (s .turns .pointers) (triedFirst p s) d → Shows p s d ⊎ (tickPasses p s d ≡ true)

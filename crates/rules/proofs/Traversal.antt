@@ -18,13 +18,13 @@ use Rattle.masks.specs.Mask.{member, size}
 use Rattle.order.specs.Order.{aboveIn}
 use Rattle.policy.specs.Policy.{isClass, flows, strictly, least, above, coversOf, homeTurn, homeClass, inRange}
 use Rattle.policy.specs.declared.Policy.{Policy}
-use Rattle.basics.proofs.Truth.{either, not-both, and-left, and-right, or-right, not-not, on-true, on-false}
+use Rattle.basics.proofs.Truth.{either, not-both, and-left, and-right, and-fails-left, or-right, or-cases, not-not, on-true, on-false}
 use Rattle.basics.proofs.Below.{lt-or-ge, some-found, none-at, count-yes, count-mono}
 use Rattle.masks.proofs.Masks.{same-members, member-zero, member-small}
 use Rattle.masks.proofs.Numbered as numbered
 use Rattle.order.proofs.Orders.{apart-strictly, strictly-flows}
 use Rattle.policy.proofs.Laws.{policy-laws}
-use Rattle.rules.specs.Traversal.{firstClass, Candidates, candidates, moved, movedPointer, passedAt, named, takesBy, takes, Reached, endsAt, tryClass, takesHome, leftTried}
+use Rattle.rules.specs.Traversal.{firstClass, Candidates, candidates, moved, movedPointer, passedAt, named, takesBy, takes, Reached, endsAt, alsoTried, tryClass, takesHome, leftTried}
 use Rattle.rules.specs.Climb.{Climbs}
 use Rattle.rules.specs.Laws.{Ascends}
 
@@ -68,6 +68,17 @@ unfolding takes takesBy
 passes-on all c e none =
     not-both (or-right (not (eqb (getD (all .lengths) c 0) 0) && not (eqb (getD (all .left) c 0) 0)) (eqb (getD (all .covers) c 0) 0) (eq-eqb (getD (all .covers) c 0) 0 none)) e
 
+-- one that takes it though none of its requests waits has none
+pub idle-top : (all : Candidates) (c : ℕ) → getD (all .lengths) c 0 ≡ 0 → takes all c ≡ true → getD (all .covers) c 0 ≡ 0
+unfolding takes takesBy
+idle-top all c idle t =
+    let waits = not (eqb (getD (all .lengths) c 0) 0) in
+    let left = not (eqb (getD (all .left) c 0) 0) in
+    ⊎-elim
+    (λ w. absurd (not-both w (and-fails-left waits left (ap not (eq-eqb (getD (all .lengths) c 0) 0 idle)))))
+    (λ z. eqb-true (getD (all .covers) c 0) 0 z)
+    (or-cases (waits && left) (eqb (getD (all .covers) c 0) 0) t)
+
 -- ---- the induction
 
 module _ (all : Candidates) where
@@ -76,7 +87,7 @@ module _ (all : Candidates) where
   try-takes zero pointers c e = refl
   try-takes (suc bound) pointers c e = on-true (takes all c) _ _ e
 
-  pub try-passes : (bound : ℕ) (pointers : List ℕ) (c : ℕ) → takes all c ≡ false → tryClass (suc bound) all pointers c ≡ tryClass bound all (passedAt (all .covers) pointers c) (named (all .covers) pointers c)
+  pub try-passes : (bound : ℕ) (pointers : List ℕ) (c : ℕ) → takes all c ≡ false → tryClass (suc bound) all pointers c ≡ alsoTried 1 (tryClass bound all (passedAt (all .covers) pointers c) (named (all .covers) pointers c))
   unfolding tryClass
   try-passes bound pointers c e = on-false (takes all c) _ _ e
 
@@ -86,7 +97,7 @@ module _ (all : Candidates) where
 
   -- if it holds of that, it holds of the class
   abbrev pub Next : (ℕ → List ℕ → ℕ → Reached → Type 0) → ℕ → List ℕ → ℕ → Type 0
-  Next P bound pointers c = P bound (passedAt (all .covers) pointers c) (named (all .covers) pointers c) (onward bound pointers c) → P (suc bound) pointers c (onward bound pointers c)
+  Next P bound pointers c = P bound (passedAt (all .covers) pointers c) (named (all .covers) pointers c) (onward bound pointers c) → P (suc bound) pointers c (alsoTried 1 (onward bound pointers c))
 
   -- what holds of where the traversal ends: where no ascent is left, where a class takes the turn, and, if it holds from the class that is named on, where one passes
   -- it on
@@ -104,6 +115,16 @@ module _ (all : Candidates) where
   -- the same where the bound does not count
   pub traversed : (P : List ℕ → ℕ → Reached → Type 0) → ((pointers : List ℕ) (c : ℕ) → P pointers c (endsAt pointers c)) → ((bound : ℕ) (pointers : List ℕ) (c : ℕ) → takes all c ≡ false → Next (λ bound. P) bound pointers c) → (bound : ℕ) (pointers : List ℕ) (c : ℕ) → P pointers c (tryClass bound all pointers c)
   traversed P ends passes = traverse (λ bound. P) ends (λ bound pointers c t. ends pointers c) passes
+
+  -- it tries the class where it starts, and one more for each ascent
+  pub tried-some : (bound : ℕ) (pointers : List ℕ) (c : ℕ) → 1 ≤ tryClass bound all pointers c .tried
+  unfolding endsAt
+  tried-some = traversed (λ pointers c r. 1 ≤ r .tried) (λ pointers c. omega arith) (λ bound pointers c t next. omega (arith, next))
+
+  pub tried-few : (bound : ℕ) (pointers : List ℕ) (c : ℕ) → tryClass bound all pointers c .tried ≤ suc bound
+  unfolding endsAt
+  tried-few =
+      traverse (λ bound pointers c r. r .tried ≤ suc bound) (λ pointers c. omega arith) (λ bound pointers c t. omega arith) (λ bound pointers c t next. omega (arith, next))
 
   -- ---- it ends before its bound
 
@@ -130,7 +151,7 @@ module _ (all : Candidates) where
         (λ t. absurd (not-suc-le-zero {n = 0} (omega (arith, falls pointers c t))))
         (either (takes all c)))
         (λ bound pointers c t h. sym (try-takes (suc (suc bound)) pointers c t))
-        (λ bound pointers c t next h. next (omega (arith, falls pointers c t)) ∙ sym (try-passes (suc bound) pointers c t))
+        (λ bound pointers c t next h. ap (alsoTried 1) (next (omega (arith, falls pointers c t))) ∙ sym (try-passes (suc bound) pointers c t))
 
     -- it ends at one of the sixteen
     pub owner-small : (bound : ℕ) (pointers : List ℕ) (c : ℕ) → c < 16 → tryClass bound all pointers c .owner < 16
@@ -146,7 +167,7 @@ same-takes covers lengths left others rest same =
     let all = candidates covers others rest in
     traverse (candidates covers lengths left) (λ bound pointers c r. r ≡ tryClass bound all pointers c) (λ pointers c. refl)
     (λ bound pointers c t. sym (try-takes all (suc bound) pointers c (sym (same c) ∙ t)))
-    (λ bound pointers c t next. next ∙ sym (try-passes all bound pointers c (sym (same c) ∙ t)))
+    (λ bound pointers c t next. ap (alsoTried 1) next ∙ sym (try-passes all bound pointers c (sym (same c) ∙ t)))
 
 -- ---- of a policy in range
 

@@ -25,6 +25,7 @@ use Rattle.rules.specs.Traversal.{firstClass, charge, charged, takesHome
 use Rattle.rules.specs.Lookahead.{nextLeft, goesOn, aheadOf}
 use Rattle.rules.specs.Step.{leftAtStart, turnWord, TurnStart, ownedBy, startTurn}
 use Rattle.rules.specs.Calls.{answerTo}
+use Rattle.rules.specs.RoundRobin.{tickTries}
 use Rattle.rules.specs.Guarantees.{ticksIn, atTick, firstTick, Started, owns, CapsSuffice}
 use Rattle.rules.proofs.PendingWords.{inside}
 use Rattle.rules.proofs.Lookahead.{elides-other, reach-here, reach-fails}
@@ -205,14 +206,13 @@ module _ (p : Policy) (given : policyInRange p ≡ true) where
           reach-fails look o 16 c (ne-eqb c o (λ e. eqb-false o c apart (sym e))) (and-fails-right (flowsIn (p .rows) c o) (eqb (getD (nextLeft p k after) c 0) 0) left) ∙ sym apart)
           (either (eqb o c))
 
-      least-drops : (c : ℕ) → owns p ws c k ≡ true → homeTurn p (k + 1) ≡ false → answerTo p (atTick p ws (firstTick p k)) 0 .turn ≡ turnWord c (eqb c (least p))
+      least-drops : (c : ℕ) → owns p ws c k ≡ true → homeTurn p (k + 1) ≡ false → answerTo p (atTick p ws (firstTick p k)) 0 .turn ≡ turnWord c (eqb c (least p)) (tickTries p (atTick p ws (firstTick p k)))
       unfolding owns startTurn ownedBy
       least-drops c own other =
           let l = ltb-true (firstTick p k) (ticksIn p ws) (and-left (ltb (firstTick p k) (ticksIn p ws)) _ own) in
-          list.shown-is p given ws (firstTick p k) l
-          ∙ ap (λ (r : TurnStart). r .shown) (list.begun-is p given ws k)
-          ∙ ap (turnWord (owner k)) (trial-ends l other)
-          ∙ ap (λ (o : ℕ). turnWord o (eqb o (least p))) (list.owned p given ws k c own)
+          list.shows p given ws k l
+          ∙ ap₂ (turnWord (owner k)) (trial-ends l other) (sym (list.tries p given ws k l))
+          ∙ ap (λ (o : ℕ). turnWord o (eqb o (least p)) (tickTries p (atTick p ws (firstTick p k)))) (list.owned p given ws k c own)
 
   pub caps-suffice : CapsSuffice p
   caps-suffice = record { some-left = some-left; least-drops = least-drops }

@@ -15,6 +15,7 @@ use Rattle.state.specs.declared.State.{State}
 use Rattle.rules.specs.Traversal.{firstClass}
 use Rattle.rules.specs.Step.{leftAtStart, turnWord}
 use Rattle.rules.specs.Calls.{lineOf, answerTo, stateAfter, logOf}
+use Rattle.rules.specs.RoundRobin.{tickTries}
 
 -- ---- the ticks of a list
 
@@ -125,4 +126,4 @@ pub record CapsSuffice (p : Policy) : Type 0 where
       → 1 ≤ getD (leftAtStart p k (atTick p ws (firstTick p k) .turns .left)) c 0
   -- so before a turn that is no home turn the trial walk gets no further than the least class: the dead time is dropped if that is the owner, and else kept
   pub least-drops : (ws : List ℕ) (k c : ℕ) → owns p ws c k ≡ true → homeTurn p (k + 1) ≡ false
-      → answerTo p (atTick p ws (firstTick p k)) 0 .turn ≡ turnWord c (eqb c (least p))
+      → answerTo p (atTick p ws (firstTick p k)) 0 .turn ≡ turnWord c (eqb c (least p)) (tickTries p (atTick p ws (firstTick p k)))

@@ -36,3 +36,5 @@ pub mod Guarantees
 pub mod Overtaking
 -- W-206: the rank gap in a log, and the logs of files without one
 pub mod Ranks
+-- W-212: how many classes a walk tries, and how many it can
+pub mod WalkLength

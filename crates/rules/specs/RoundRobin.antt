@@ -62,13 +62,17 @@ tickPasses p s c = tickStarts p s && passesOn 16 (seenAt p s) (s .turns .pointer
 unfoldable pub tickPassesTo : Policy → State → ℕ → ℕ
 tickPassesTo p s c = passesTo 16 (seenAt p s) (s .turns .pointers) (triedFirst p s) c
 
+-- W-212: "how many classes the walk tried, the owner counted"
+unfoldable pub tickTries : Policy → State → ℕ
+tickTries p s = tryClass 16 (seenAt p s) (s .turns .pointers) (triedFirst p s) .tried
+
 -- the turns as the tick leaves them
 abbrev pub turnsAfter : Policy → State → Turns
 turnsAfter p s = answerTo p s 0 .state .turns
 
 -- the tick's turn number in the log is that of a class
 abbrev pub Shows : Policy → State → ℕ → Type 0
-Shows p s c = answerTo p s 0 .turn ≡ turnWord c (turnsAfter p s .elided)
+Shows p s c = answerTo p s 0 .turn ≡ turnWord c (turnsAfter p s .elided) (tickTries p s)
 
 -- ---- a list of calls
 

@@ -1,7 +1,7 @@
 -- "Tick number t does, in order:" a turn's start, the command wires, the response.
 use mathlib.Core.Bool.{Bool, true, false, cond, _&&_, _||_}
 use mathlib.Core.List.{List}
-use Prim.Native.Nat.{ℕ, _+_, _/_, _%_}
+use Prim.Native.Nat.{ℕ, _+_, _*_, _/_, _%_}
 use lib.Dec.{ltb, eqb}
 use Rattle.timing.specs.declared.Timing.{Timing}
 use Rattle.policy.specs.declared.Policy.{Policy}
@@ -34,9 +34,9 @@ turnNumber p t = t / p .timing .turn
 unfoldable pub leftAtStart : Policy → ℕ → List ℕ → List ℕ
 leftAtStart p k left = cond (eqb (k % p .epoch) 0) (p .caps) left
 
--- "Turn is 0 unless a turn starts, then 1 + owner, plus 256 if the dead time is dropped."
-unfoldable pub turnWord : ℕ → Bool → ℕ
-turnWord owner elided = 1 + owner + cond elided 256 0
+-- "Turn is 0 unless a turn starts, then 1 + owner, plus 256 if the dead time is dropped." W-212: "The turn number in the log carries in bits 16 to 20 how many classes the walk tried"
+unfoldable pub turnWord : ℕ → Bool → ℕ → ℕ
+turnWord owner elided tried = 1 + owner + cond elided 256 0 + 65536 * tried
 
 -- what a turn's start hands back: the turns, and the turn's number in the log
 pub record TurnStart : Type 0 where
@@ -50,13 +50,15 @@ ownedBy p k lengths left reached =
     let elided = elides p k after (reached .pointers) (reached .owner) in
     record {
       turns = record { owner = reached .owner; elided = elided; left = after; pointers = reached .pointers };
-      shown = turnWord (reached .owner) elided;
+      shown = turnWord (reached .owner) elided (reached .tried);
     }
 
+-- the traversal of turn number k
+abbrev pub traversal : Policy → ℕ → List ℕ → List ℕ → List ℕ → Reached
+traversal p k lengths left pointers = tryClass 16 (candidates (p .covers) lengths (leftTried p k (leftAtStart p k left))) pointers (firstClass p k)
+
 unfoldable pub startTurn : Policy → ℕ → List ℕ → List ℕ → List ℕ → TurnStart
-startTurn p k lengths left pointers =
-    let now-left = leftAtStart p k left in
-    ownedBy p k lengths now-left (tryClass 16 (candidates (p .covers) lengths (leftTried p k now-left)) pointers (firstClass p k))
+startTurn p k lengths left pointers = ownedBy p k lengths (leftAtStart p k left) (traversal p k lengths left pointers)
 
 -- the turns as a tick has them, and the number that it shows of them
 unfoldable pub turnsAt : Policy → ℕ → List ℕ → Turns → TurnStart

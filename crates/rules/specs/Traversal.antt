@@ -47,14 +47,19 @@ takesBy covers length left = not (eqb length 0) && not (eqb left 0) || eqb cover
 unfoldable pub takes : Candidates → ℕ → Bool
 takes all c = takesBy (getD (all .covers) c 0) (getD (all .lengths) c 0) (getD (all .left) c 0)
 
--- the class at which the traversal ends, and the pointers after it
+-- the class at which the traversal ends, the pointers after it, and W-212: "how many classes the walk tried, the owner counted"
 pub record Reached : Type 0 where
   pub owner : ℕ
   pub pointers : List ℕ
+  pub tried : ℕ
 
 -- where the class that is tried is the owner: its pointer stays
 unfoldable pub endsAt : List ℕ → ℕ → Reached
-endsAt pointers c = record { owner = c; pointers = pointers }
+endsAt pointers c = record { owner = c; pointers = pointers; tried = 1 }
+
+-- what the traversal comes to where so many classes were tried before
+abbrev pub alsoTried : ℕ → Reached → Reached
+alsoTried before r = record { owner = r .owner; pointers = r .pointers; tried = before + r .tried }
 
 -- a class is tried: it takes the turn or passes it on. "If not, the turn ascends to the child that its mark names, and that child is tried in the
 -- same way." The first argument bounds how often the turn ascends; there are never more ascents than classes strictly above.
@@ -63,7 +68,7 @@ tryClass zero all pointers c = endsAt pointers c
 tryClass (suc rest) all pointers c =
     elim (takes all c) [
       | true ↦ endsAt pointers c
-      | false ↦ tryClass rest all (passedAt (all .covers) pointers c) (named (all .covers) pointers c)
+      | false ↦ alsoTried 1 (tryClass rest all (passedAt (all .covers) pointers c) (named (all .covers) pointers c))
     ]
 
 -- "The owner's turns left fall by 1, not below 0."

@@ -8,6 +8,7 @@ use Rattle.policy.specs.Policy.{least}
 use Rattle.policy.specs.Policy.{inRange as policyInRange}
 use Rattle.timing.specs.declared.Timing.{Timing}
 use Rattle.policy.specs.declared.Policy.{Policy}
+use Rattle.rules.specs.Traversal.{Reached}
 use Rattle.rules.specs.Step.{TurnStart}
 use Rattle.queues.specs.Waiting.{queuesOf}
 use Rattle.state.specs.Stored.{turnsOf}
@@ -16,6 +17,7 @@ use Rattle.state.specs.Range.{inRange}
 use Rattle.rules.specs.Call.{busAt}
 use Rattle.rules.specs.Calls.{Answer}
 use Rattle.wires.specs.InPlace.{NoneUntil}
+use Rattle.scheduler.specs.declared.traversal.Ended.{Ended}
 use Rattle.scheduler.specs.declared.turning.Owned.{Owned}
 use Rattle.scheduler.specs.declared.ticking.Moment.{Moment}
 use Rattle.scheduler.specs.declared.ticking.Called.{Called}
@@ -80,6 +82,10 @@ stateOf m slots heads lengths passed left pointers columns responses banks =
       turns = turnsOf (m .owner) (m .elided) left pointers;
       flight = flightOf columns responses banks (m .last);
     }
+
+-- where a traversal in place ended, of its numbers and the pointers
+abbrev pub reachedOf : Ended → List ℕ → Reached
+reachedOf r pointers = record { owner = r .owner; pointers = pointers; tried = r .tried }
 
 -- what a tick's first step left, of its numbers and arrays
 abbrev pub startOf : Owned → List ℕ → List ℕ → TurnStart

@@ -14,11 +14,12 @@ ghost use Rattle.rules.specs.Traversal.{firstClass, candidates, endsAt, tryClas
 ghost use Rattle.rules.specs.Lookahead.{elides};
 ghost use Rattle.rules.specs.Step.{leftAtStart, startTurn, turnsAt};
 ghost use Rattle.state.specs.declared.Turns.{Turns};
-ghost use Rattle.scheduler.specs.InPlace.{Lent, InStep, startOf};
+ghost use Rattle.scheduler.specs.InPlace.{Lent, InStep, reachedOf, startOf};
 ghost use Rattle.state.specs.Stored.{turnsOf};
 use super::lookahead;
 use super::ticking::Moment;
 use super::traversal;
+use super::traversal::Ended;
 use policy::Policy;
 
 // Where a turn's traversal starts: the class, and whether the turn is a home turn, which is then that class's.
@@ -70,7 +71,7 @@ fn takes_home(first: First, lengths: &[usize; 16]) -> bool
     first.home & (lengths[class] != 0)
 }
 
-// The owner of a turn whose traversal starts at a class: that class, where it takes its home turn, and else the one at which the traversal ends.
+// The owner of a turn whose traversal starts at a class: that class, where it takes its home turn, and else the one at which the traversal ends. And how many classes were tried.
 fn owner_from(
     rows: &[u16; 16],
     covers: &[u16; 16],
@@ -79,15 +80,18 @@ fn owner_from(
     pointers: &mut [usize; 16],
     from: usize,
     taken: bool,
-) -> usize
+) -> Ended
     requires { ⌜ Climbs (now rows) (now covers) × (from < 16) × (length (now pointers) ≡ 16) ⌝ }
-    ensures { λ r. ⌜ record { owner = r; pointers = now (pointers .exit) } ≡ cond taken (endsAt (now (pointers .entry)) from)
+    ensures { λ r. ⌜ reachedOf r (now (pointers .exit)) ≡ cond taken (endsAt (now (pointers .entry)) from)
         (tryClass 16 (candidates (now (covers .entry)) (now (lengths .entry)) (now (left .entry))) (now (pointers .entry)) from) ⌝ }
 {
     if taken {
-        return from;
+        return Ended {
+            owner: from,
+            tried: 1,
+        };
     }
-    traversal::try_class(rows, covers, lengths, left, pointers, from)
+    traversal::try_class(rows, covers, lengths, left, pointers, from, 0)
 }
 
 // The owner's turns left fall by 1, not below 0. A class that takes its home turn is not charged.
@@ -149,7 +153,8 @@ fn start_turn(
     left_at_start(p, number, caps, left);
     let first = first_class(p, bottom, free, number);
     let taken = takes_home(first, lengths);
-    let owner = owner_from(rows, covers, lengths, left, pointers, first.class, taken);
+    let ended = owner_from(rows, covers, lengths, left, pointers, first.class, taken);
+    let owner = ended.owner;
     charge(left, owner, taken);
     let elided = elides(
         p,
@@ -163,7 +168,7 @@ fn start_turn(
         pointers,
         owner,
     );
-    let shown = decisions::turn_word(owner, elided);
+    let shown = decisions::turn_word(owner, elided, ended.tried);
     Owned {
         owner,
         elided,

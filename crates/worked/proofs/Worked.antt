@@ -8,20 +8,20 @@ use mathlib.Core.List.{List, [], _∷_, _++_, map}
 use Prim.Native.Nat.{ℕ, _+_, _*_, _%_, _≤_}
 use native.Mathlib.Nat.{not-suc-le-zero, le-of-lt}
 use native.Mathlib.Omega.{arith}
-use borrow.Author.Tests.{eqb-true, eqb-false, eq-eqb, ne-eqb, ltb-true, lt-ltb}
+use borrow.Author.Tests.{eqb-false, eq-eqb, ne-eqb, ltb-true, lt-ltb}
 use lib.Dec.{ltb, eqb}
 use lib.ListN.{length, getD, drop}
 use Rattle.basics.specs.Below.{every, some, first, count, sum, setOf, listOf}
-use Rattle.masks.specs.Mask.{member, includes, size, nth, belowMask}
-use Rattle.order.specs.Order.{isClassIn, flowsIn, strictlyIn, rowFits, rowsFit, antisymmetricAt, antisymmetric, transitiveAt, transitive, hasLeast, leastAt, leastIn, betweenIn, coversIn, coverSet}
+use Rattle.masks.specs.Mask.{member, includes, size, nth, classMask, belowMask}
+use Rattle.order.specs.Order.{isClassIn, flowsIn, strictlyIn, rowFits, rowsFit, antisymmetricAt, antisymmetric, transitiveAt, transitive, hasLeast, leastAt, leastIn, aboveSome, betweenIn, coversIn, coverSet, risenTo, longestIn}
 use Rattle.turns.specs.Turns.{minimumsSum, turnsSound, minimumsAbove, capIn, freeTurns, homeTurnIn, homePlace, minimumsBelow, homeAt}
 use Rattle.timing.specs.Timing.{within, gapsWithin, bankWithin, rankWithin, timingSound}
-use Rattle.policy.specs.Policy.{isClass, flows, least, above, coversOf, cap, homeTurn, homeClass, firstFailing, policyTests, refusal, storedFits, allStoredFits, shaped, inRange, minimum}
+use Rattle.policy.specs.Policy.{isClass, flows, least, above, coversOf, cap, walkBound, homeTurn, homeClass, firstFailing, policyTests, refusal, storedFits, allStoredFits, shaped, inRange, minimum}
 use Rattle.file.specs.File.{byte, word, kind, start, bodySize, kindsFit, bodiesAbut, contentsFit, classCount, lengthsFit, rowAt, epochOf, minimumAt, ranksOf, rankGapOf, timingOf, held, noPolicy, fileTests, status, refusedWith, readFile}
 use Rattle.file.specs.Taken.{policyOf}
 use Rattle.policy.specs.declared.Policy.{Policy}
 use Rattle.file.specs.declared.Reading.{Reading}
-use Rattle.basics.proofs.Truth.{either, not-both, not-true, not-false, and-left, and-right, and-both, and-fails-left, or-cases, on-true, on-false}
+use Rattle.basics.proofs.Truth.{either, not-true, not-false, and-left, and-right, and-both, on-true, on-false}
 use Rattle.basics.proofs.Below.{count-same}
 use Rattle.policy.proofs.Laws.{policy-laws}
 use Rattle.requests.specs.Word.{classOf, rankOf, kindOf, bankOf, tagOf, bankPlace, isOffer, requestOf, bankInWord, wordOf, classFits, bankKindRankFit, columnNumber, commandNumber}
@@ -39,11 +39,11 @@ use Rattle.requests.specs.Trace.{callOf}
 use Rattle.rules.specs.Calls.{Answer, ticked, offered, answer, answerTo, stateAfter, logOf}
 use Rattle.rules.specs.Overtaking.{commandsIn}
 use Rattle.rules.specs.Guarantees.{ticksIn, stateAtTick, atTick, firstTick, Started, Waits, owns, ownedIn}
-use Rattle.worked.specs.Worked.{timed, example, alone, pair, fork, spare, chain, full, aloneAtHome, chainAtHome, forkFilled, filledAbove, leastIsOne, busyBank, slowWrites, fourRanks, ticks, reads, everySecond, eachTurn, refilled, behindReads, logFrom, turnsIn, turnsFrom, commandsFrom, passedFrom, waitsAt, epochOfLeast, twoEpochs, startOf, printed, printedRanked, Case, table, WorkedTurns}
+use Rattle.worked.specs.Worked.{timed, example, alone, pair, fork, spare, chain, longChain, full, aloneAtHome, chainAtHome, forkFilled, filledAbove, leastIsOne, busyBank, slowWrites, fourRanks, ticks, reads, everySecond, eachTurn, refilled, behindReads, logFrom, turnsIn, turnsFrom, commandsFrom, passedFrom, waitsAt, epochOfLeast, twoEpochs, startOf, boundsOf, printed, printedRanked, Case, table, WorkedTurns}
 use Rattle.state.specs.declared.State.{State}
 use Rattle.requests.specs.declared.Call.{Call}
 use Rattle.requests.specs.declared.Call.the-variants.{Tick, Offer, Malformed}
-use Rattle.rules.proofs.Traversal.{traverse, falls, climbs, first-class, ascends}
+use Rattle.rules.proofs.Traversal.{idle-top, traverse, falls, climbs, first-class, ascends}
 use Rattle.rules.proofs.Lookahead.{elides-home, elides-other, reach-here}
 use Rattle.rules.proofs.Call.{offer-is}
 use Rattle.rules.proofs.CallsKept.{fresh-fits}
@@ -186,6 +186,11 @@ passed-from : (p : Policy) → inRange p ≡ true → (ws : List ℕ) → passed
 unfolding passedFrom passed-computed
 passed-from p given ws = ap (λ (s : State). passedOf (s .queues) 0) (after-right p (freshState p) ws (fresh-fits p given))
 
+-- W-212's bounds
+bounds-computed : Policy → List ℕ
+unfolding policy-computed boundsOf walkBound longestIn risenTo aboveSome classMask first
+bounds-computed p = boundsOf p
+
 two-epochs : (p : Policy) → inRange p ≡ true → (ws : List ℕ) → twoEpochs p ws ≡ turns-computed p ws ++ owned-computed p ws 0 ++ owned-computed p ws 1
 unfolding twoEpochs
 two-epochs p given ws = ap₂ _++_ (ap₂ _++_ (turns-from p given ws) (epoch-of-least p given ws 0)) (epoch-of-least p given ws 1)
@@ -197,7 +202,7 @@ also e es = ap₂ (λ (l : List ℕ) (ls : List (List ℕ)). l ∷ ls) e es
 
 -- each of its policies is in range; that is computed too, so its proof is `refl`
 cases : map (λ (c : Case). c .yielded) table ≡ map (λ (c : Case). c .stated) table
-unfolding table alone pair fork chain full aloneAtHome chainAtHome forkFilled filledAbove leastIsOne busyBank slowWrites fourRanks startOf turns-computed owned-computed commands-computed passed-computed file-computed range-computed eachTurn refilled behindReads
+unfolding table alone pair fork chain full aloneAtHome chainAtHome forkFilled filledAbove leastIsOne longChain busyBank slowWrites fourRanks startOf bounds-computed turns-computed owned-computed commands-computed passed-computed file-computed range-computed eachTurn refilled behindReads
 cases =
     also (turns-from alone refl (ticks 13))
     (also (turns-from pair refl (reads 3 0 ++ ticks 9))
@@ -228,7 +233,10 @@ cases =
     (also (from-fresh (readFile (printedRanked 2) .policy) refl (0x80010007 ∷ 0 ∷ 0 ∷ 0 ∷ []))
     (also (ap₂ _++_ (from-fresh busyBank refl (0x80400000 ∷ [])) (from-fresh fourRanks refl (0x80400000 ∷ 0x80C00000 ∷ [])))
     (also (commands-from fourRanks refl (0x80000001 ∷ 0x80400002 ∷ 0x80400003 ∷ ticks 11))
-    refl))))))))))))))))))))))))))
+    (also (turns-from longChain refl (reads 1 1 ++ ticks 5))
+    (also refl
+    (also refl
+    refl)))))))))))))))))))))))))))))
 
 -- what W-209's rows count is its premise
 waiting : (p : Policy) (ws : List ℕ) (c k : ℕ) → (waitsAt p ws c k ≡ true) ↔ (Started p ws k × Waits p ws k c)
@@ -268,23 +276,14 @@ a p given one k lengths left pointers =
 -- ---- (e)
 
 module _ (p : Policy) (given : inRange p ≡ true) (lengths left : List ℕ) (nobody : (c : ℕ) → getD lengths c 0 ≡ 0) where
-  -- a class that takes the turn though nobody waits has no cover
-  idle-takes : (c : ℕ) → takes (candidates (p .covers) lengths left) c ≡ true → coversOf p c ≡ 0
-  unfolding takes takesBy coversOf
-  idle-takes c t =
-      ⊎-elim
-      (λ w. absurd (not-both w (and-fails-left (not (eqb (getD lengths c 0) 0)) (not (eqb (getD left c 0) 0)) (ap not (eq-eqb (getD lengths c 0) 0 (nobody c))))))
-      (λ z. eqb-true (getD (p .covers) c 0) 0 z)
-      (or-cases (not (eqb (getD lengths c 0) 0) && not (eqb (getD left c 0) 0)) (eqb (getD (p .covers) c 0) 0) t)
-
   idle-ends : (bound : ℕ) (pointers : List ℕ) (c : ℕ) → above p c ≤ bound → coversOf p (tryClass bound (candidates (p .covers) lengths left) pointers c .owner) ≡ 0
-  unfolding endsAt above
+  unfolding endsAt above coversOf
   idle-ends =
       let all = candidates (p .covers) lengths left in
       let fewer = falls all (p .rows) (climbs p given) in
       traverse all (λ bound pointers c r. above p c ≤ bound → coversOf p (r .owner) ≡ 0)
-      (λ pointers c h. ⊎-elim (idle-takes c) (λ t. absurd (not-suc-le-zero {n = 0} (omega (arith, fewer pointers c t, h)))) (either (takes all c)))
-      (λ bound pointers c t h. idle-takes c t)
+      (λ pointers c h. ⊎-elim (idle-top all c (nobody c)) (λ t. absurd (not-suc-le-zero {n = 0} (omega (arith, fewer pointers c t, h)))) (either (takes all c)))
+      (λ bound pointers c t h. idle-top all c (nobody c) t)
       (λ bound pointers c t next h. next (omega (arith, fewer pointers c t, h)))
 
 e : (p : Policy) → inRange p ≡ true → (k : ℕ) (lengths left pointers : List ℕ) → ((c : ℕ) → getD lengths c 0 ≡ 0) → coversOf p (startTurn p k lengths left pointers .turns .owner) ≡ 0

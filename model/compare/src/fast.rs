@@ -1,4 +1,4 @@
-//! The rules of document 01, with requests W-201, W-202, W-203 and W-206 of document 02,
+//! The rules of document 01, with requests W-201, W-202, W-203, W-206 and W-212 of document 02,
 //! written for speed: the measure of what a run could cost.
 //!
 //! One struct holds policy and state in fixed arrays and is changed in place.
@@ -10,7 +10,7 @@
 use vigambul_model::masks::class_mask;
 use vigambul_model::policy::{self, Policy, Timing, LONGEST_EPOCH, MOST_CLASSES};
 use vigambul_model::state::{LAST_CYCLE, MOST_PASSES, QUEUE_LIMIT};
-use vigambul_model::trace::{COLUMN_BIT, ELIDED, LINE, OFFER_BIT};
+use vigambul_model::trace::{COLUMN_BIT, ELIDED, LINE, OFFER_BIT, TRIED_SHIFT};
 
 /// Commands and answers in flight lie in rings by the cycle they are due at.
 /// No delay is above 31, so the slot of the current cycle is never one that an
@@ -37,6 +37,9 @@ const BANK_AND_RANK: usize = 0xC7;
 
 /// Marks a home turn in the plan; the bits below it are the class.
 const HOME: u8 = 1 << 4;
+
+/// One tried class, as the turn number counts it.
+const ONE_TRIED: u32 = 1 << TRIED_SHIFT;
 
 // Numbers of document 01's table.
 const CLASS: u32 = 9;
@@ -366,7 +369,7 @@ impl Controller {
             self.turns_left = self.caps;
             self.with_turns = self.with_caps;
         }
-        self.walk(self.plan[self.turn_in_epoch as usize]);
+        let tried = self.walk(self.plan[self.turn_in_epoch as usize]);
         // What was looked at were another owner's requests.
         self.none_before = self.any_ready();
         self.turn_in_epoch += 1;
@@ -385,18 +388,19 @@ impl Controller {
         } else {
             self.next_turn - self.dead_time
         };
-        1 + self.owner as u32 + if elided { ELIDED } else { 0 }
+        1 + self.owner as u32 + if elided { ELIDED } else { 0 } + tried
     }
 
     /// Picks the owner from a place of the plan, moves the marks of the classes that
     /// pass the turn on, and takes one of the owner's turns left, unless it is a home
-    /// class whose request waits.
-    fn walk(&mut self, first: u8) {
+    /// class whose request waits. Gives the tried classes as the turn number has them.
+    fn walk(&mut self, first: u8) -> u32 {
         let mut class = usize::from(first & !HOME);
         if first & HOME != 0 && self.waiting >> class & 1 == 1 {
             self.owner = class;
-            return;
+            return ONE_TRIED;
         }
+        let mut tried = ONE_TRIED;
         let takers = self.waiting & self.with_turns | self.tops;
         while takers >> class & 1 == 0 {
             // W-201: "it moves first and then names the child". A class that does
@@ -404,6 +408,7 @@ impl Controller {
             let mark = self.moved_mark(class);
             self.marks[class] = mark;
             class = self.child(class, mark);
+            tried += ONE_TRIED;
         }
         self.owner = class;
         if self.turns_left[class] > 0 {
@@ -412,6 +417,7 @@ impl Controller {
                 self.with_turns &= !class_mask(class);
             }
         }
+        tried
     }
 
     /// Whether the next turn's walk, as far as can be told now, leads to the

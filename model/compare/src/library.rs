@@ -26,6 +26,13 @@ extern "C" {
         out_len: usize,
         status: *mut u32,
     ) -> usize;
+
+    fn vigambul_walk_bound(
+        policy: *const u8,
+        policy_len: usize,
+        class: u32,
+        status: *mut u32,
+    ) -> u32;
 }
 
 /// What a status holds before the call: no call leaves it.
@@ -79,4 +86,15 @@ pub fn extract(
         )
     };
     (count, status)
+}
+
+/// Reads a policy file's bytes and counts the classes on the longest rising chain from a class,
+/// itself counted. Answers the number and the status: 0, 1 to 8 where the file is refused, or 9;
+/// refused, the number is 0.
+pub fn walk_bound(policy: &[u8], class: u32) -> (u32, u32) {
+    let mut status = NO_STATUS;
+    // SAFETY: the pointer and the length are those of a slice which lives for the whole call,
+    // as does the status, and only the status is written.
+    let number = unsafe { vigambul_walk_bound(policy.as_ptr(), policy.len(), class, &mut status) };
+    (number, status)
 }

@@ -5,7 +5,7 @@ use vigambul_model::extract::HIDDEN_TURN;
 use vigambul_model::planted::Planted;
 use vigambul_model::policy::{self, Policy};
 use vigambul_model::refusal::Refusal;
-use vigambul_model::trace::{class_bits, Word, COLUMN_BIT, ELIDED, LINE, OFFER_BIT};
+use vigambul_model::trace::{class_bits, Word, COLUMN_BIT, ELIDED, LINE, OFFER_BIT, TRIED_BITS};
 
 use crate::calls::{Calls, Model};
 
@@ -24,6 +24,8 @@ pub enum Wrong {
     ShowsHiddenOwners,
     /// 512, and 256 more where the hidden owner's dead time is dropped.
     ShowsHiddenDeadTimes,
+    /// 512, with how many classes the walk to the hidden owner tried.
+    ShowsHiddenWalks,
     /// A hidden command leaves its bits 30 and 31.
     ShowsThatWiresAreBusy,
     /// The order is read the wrong way round: L sees what is above it.
@@ -40,7 +42,10 @@ pub enum Wrong {
     ShowsTurnsOfNoClass,
     ShowsTurnsOfLowByteZero,
     ReadsOwnersFromFiveBits,
+    /// Bits 9 to 15 and above 20 are cut from turn numbers: they are no field's.
     CutsTurnNumbers,
+    /// Bits 16 to 20 are cut from turn numbers: so they were before W-212.
+    CutsWalks,
     ReadsClassesFromFourBits,
     ShowsWordsWithoutBit31,
     HidesWordsThatAreNoOffers,
@@ -60,7 +65,7 @@ pub enum Wrong {
 }
 
 /// Wrong extracts that leak what may not flow to L.
-pub const LEAKS: [Wrong; 10] = [
+pub const LEAKS: [Wrong; 11] = [
     Wrong::KeepsMalformedWords,
     Wrong::KeepsOffersOfHiddenClasses,
     Wrong::KeepsOffersOfMissingClasses,
@@ -68,13 +73,14 @@ pub const LEAKS: [Wrong; 10] = [
     Wrong::ShowsHiddenAnswers,
     Wrong::ShowsHiddenOwners,
     Wrong::ShowsHiddenDeadTimes,
+    Wrong::ShowsHiddenWalks,
     Wrong::ShowsThatWiresAreBusy,
     Wrong::SeesClassesAbove,
     Wrong::AsksRoomForAll,
 ];
 
 /// Wrong extracts that only a comparison with right ones finds.
-pub const OTHERS: [Wrong; 23] = [
+pub const OTHERS: [Wrong; 24] = [
     Wrong::DropsRefusedOffers,
     Wrong::DropsRefusedTicks,
     Wrong::HidesInLinesOfOffers,
@@ -84,6 +90,7 @@ pub const OTHERS: [Wrong; 23] = [
     Wrong::ShowsTurnsOfLowByteZero,
     Wrong::ReadsOwnersFromFiveBits,
     Wrong::CutsTurnNumbers,
+    Wrong::CutsWalks,
     Wrong::ReadsClassesFromFourBits,
     Wrong::ShowsWordsWithoutBit31,
     Wrong::HidesWordsThatAreNoOffers,
@@ -292,10 +299,12 @@ impl View<'_> {
             (_, None) => self.is(Wrong::ShowsTurnsOfLowByteZero),
         };
         match self.wrong {
-            Wrong::CutsTurnNumbers if shown => turn & 0x1FF,
+            Wrong::CutsTurnNumbers if shown => turn & (TRIED_BITS | 0x1FF),
+            Wrong::CutsWalks if shown => turn & !TRIED_BITS,
             _ if shown => turn,
             Wrong::HidesOwnersAsNothing => 0,
             Wrong::ShowsHiddenDeadTimes => HIDDEN_TURN | turn & ELIDED,
+            Wrong::ShowsHiddenWalks => HIDDEN_TURN | turn & TRIED_BITS,
             _ => HIDDEN_TURN,
         }
     }

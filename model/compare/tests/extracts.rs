@@ -11,7 +11,9 @@ use vigambul_model::planted::Planted;
 use vigambul_model::policy::{self, Policy};
 use vigambul_model::program::read_trace;
 use vigambul_model::random::Random;
-use vigambul_model::trace::{class_bits, Word, COLUMN_BIT, ELIDED, LINE, OFFER_BIT};
+use vigambul_model::trace::{
+    class_bits, tried, Word, COLUMN_BIT, ELIDED, LINE, OFFER_BIT, TRIED_BITS, TRIED_SHIFT,
+};
 
 /// Numbers on both sides of a lent extract, in which a stray write shows.
 const GUARD: usize = 8;
@@ -395,14 +397,17 @@ fn any_word(random: &mut Random) -> u32 {
 fn any_turn(random: &mut Random) -> u32 {
     let any = random.next() as u32;
     let owner = random.below(17) as u32;
+    let walk = (1 + random.below(31) as u32) << TRIED_SHIFT;
     match random.below(10) {
         0 => 0,
         1 => any,
-        // What a run writes, of classes that exist and that do not.
-        2 | 3 => 1 + owner,
-        4 | 5 => 1 + owner + ELIDED,
+        // What a run writes, of classes that exist and that do not; and without a walk.
+        2 => 1 + owner,
+        3 => 1 + owner + walk,
+        4 => 1 + owner + ELIDED,
+        5 => 1 + owner + ELIDED + walk,
         // A low byte of 0, or any low byte.
-        6 => [256, 512, 768, 65_536, 1 << 31, any << 8][random.below(6)],
+        6 => [256, 512, 768, 65_536, 1 << 31, walk, any << 8][random.below(7)],
         7 => random.below(256) as u32,
         // An owner, with any bits above the low byte.
         8 => any << 8 | (1 + owner),
@@ -441,8 +446,10 @@ struct Shown {
     no_offers_hidden: u64,
     owners_seen: u64,
     dropped_dead_times_seen: u64,
-    turns_with_high_bits_seen: u64,
+    walks_seen: u64,
+    turns_with_stray_bits_seen: u64,
     owners_hidden: u64,
+    walks_hidden: u64,
     turns_of_zero: u64,
     turns_of_low_byte_zero: u64,
     turns_of_512: u64,
@@ -451,7 +458,7 @@ struct Shown {
 }
 
 impl Shown {
-    fn counts(&self) -> [(&'static str, u64); 30] {
+    fn counts(&self) -> [(&'static str, u64); 32] {
         [
             ("offers kept", self.offers_kept),
             ("offers kept, refused", self.refused_offers_kept),
@@ -514,10 +521,18 @@ impl Shown {
                 self.dropped_dead_times_seen,
             ),
             (
-                "owners seen, bits above bit 8",
-                self.turns_with_high_bits_seen,
+                "owners seen, after walks of two classes or more",
+                self.walks_seen,
+            ),
+            (
+                "owners seen, bits that are no field's",
+                self.turns_with_stray_bits_seen,
             ),
             ("owners hidden by 512", self.owners_hidden),
+            (
+                "owners hidden by 512, after walks of two classes or more",
+                self.walks_hidden,
+            ),
             ("turn numbers of 0", self.turns_of_zero),
             (
                 "turn numbers of low byte 0 hidden by 512",
@@ -608,9 +623,14 @@ impl Shown {
             (_, low) if sees(low - 1) => {
                 self.owners_seen += 1;
                 self.dropped_dead_times_seen += u64::from(turn & ELIDED != 0);
-                self.turns_with_high_bits_seen += u64::from(turn >> 9 != 0);
+                self.walks_seen += u64::from(tried(turn) > 1);
+                let stray = turn & !(TRIED_BITS | 0x1FF);
+                self.turns_with_stray_bits_seen += u64::from(stray != 0);
             }
-            _ => self.owners_hidden += 1,
+            _ => {
+                self.owners_hidden += 1;
+                self.walks_hidden += u64::from(tried(turn) > 1);
+            }
         }
     }
 }

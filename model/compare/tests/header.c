@@ -18,7 +18,7 @@ static const uint8_t POLICY[] = {
 static const uint32_t TRACE[] = {0x80010007, 0, 0, 0};
 static const uint32_t LOG[] = {
     0, 0,          0,          0,
-    0, 0x80010007, 0,          0x00000101,
+    0, 0x80010007, 0,          0x00010101,
     0, 0xC0010007, 0,          0,
     0, 0,          0x80010007, 0};
 
@@ -68,6 +68,7 @@ static void extracts(void)
 
     /* The trace and its log cannot be taken for each other: class 0 does not see the offer of class 1. */
     expect(vigambul_run(POLICY, COUNT(POLICY), of_class_1, COUNT(of_class_1), log, COUNT(log)) == 0, "a run of class 1");
+    expect(log[7] == 0x00020102 && VIGAMBUL_TURN_TRIED(log[7]) == 2, "a walk past class 0");
     expect(vigambul_extract(POLICY, COUNT(POLICY), 0, of_class_1, COUNT(of_class_1), log, COUNT(log), out, COUNT(out), &status) == 4, "the count of what class 0 sees");
     expect(status == 0 && out[0] == 0 && out[1] == 0 && out[2] == 0 && out[3] == 512, "what class 0 sees");
 
@@ -78,6 +79,21 @@ static void extracts(void)
     expect(vigambul_extract(POLICY, COUNT(POLICY), 1, TRACE, COUNT(TRACE), LOG, COUNT(LOG), NULL, 0, &status) == 0 && status == 16, "no room");
     expect(vigambul_extract(NULL, 0, 0, TRACE, COUNT(TRACE), LOG, COUNT(LOG), out, COUNT(out), &status) == 0 && status == 1, "no file to extract by");
     expect(vigambul_extract(NULL, 0, 0, NULL, 0, NULL, 0, NULL, 0, &status) == 0 && status == 1, "nothing at all to extract");
+}
+
+/* The longest chain up from each class, and 9 for any other; a file that is refused is so first. */
+static void bounds(void)
+{
+    uint32_t status = UNWRITTEN;
+    expect(vigambul_walk_bound(POLICY, COUNT(POLICY), 0, &status) == 2 && status == 0, "the bound of class 0");
+    status = UNWRITTEN;
+    expect(vigambul_walk_bound(POLICY, COUNT(POLICY), 1, &status) == 1 && status == 0, "the bound of class 1");
+    expect(vigambul_walk_bound(POLICY, COUNT(POLICY), 2, &status) == 0 && status == VIGAMBUL_REFUSED_CLASS, "the bound of no class");
+    expect(vigambul_walk_bound(POLICY, COUNT(POLICY), UINT32_MAX, &status) == 0 && status == VIGAMBUL_REFUSED_CLASS, "the bound of the highest number");
+    expect(vigambul_walk_bound(POLICY, COUNT(POLICY) - 1, UINT32_MAX, &status) == 0 && status == VIGAMBUL_REFUSED_CONTENTS, "the bound of a file that is cut off");
+    expect(vigambul_walk_bound(NULL, 0, 0, &status) == 0 && status == VIGAMBUL_REFUSED_CONTENTS, "the bound of no file");
+    expect(VIGAMBUL_TURN_TRIED(0x001F0000) == 31 && VIGAMBUL_TURN_TRIED(0xFFE0FFFF) == 0, "the bits of tried classes");
+    expect(VIGAMBUL_TURN_TRIED(VIGAMBUL_TURN_HIDDEN) == 0, "tried classes of a hidden turn");
 }
 
 /* The numbers of the refusals, each of a call that gets it; 12 is a tick too far to run here, and 13 is of states that no caller hands in. */
@@ -171,7 +187,8 @@ static void words(void)
         if (VIGAMBUL_TURN_STARTS(turn) && turns < COUNT(owners)) {
             expect(VIGAMBUL_TURN_OWNER(turn) == owners[turns], "a turn's owner");
             expect(VIGAMBUL_TURN_DROPPED(turn) == dropped[turns], "a turn's dead time");
-            expect(turn == 1 + VIGAMBUL_TURN_OWNER(turn) + 256 * VIGAMBUL_TURN_DROPPED(turn), "a turn number of its parts");
+            expect(VIGAMBUL_TURN_TRIED(turn) == 1, "a walk of one class");
+            expect(turn == 1 + VIGAMBUL_TURN_OWNER(turn) + 256 * VIGAMBUL_TURN_DROPPED(turn) + 65536 * VIGAMBUL_TURN_TRIED(turn), "a turn number of its parts");
             turns++;
         }
     }
@@ -232,6 +249,7 @@ int main(void)
 {
     runs();
     extracts();
+    bounds();
     refusals();
     words();
     ranks();

@@ -187,7 +187,9 @@ fn every_extract_that_leaks_is_found() {
             | Wrong::KeepsOffersOfMissingClasses => Check::Count,
             Wrong::ShowsHiddenCommands | Wrong::ShowsThatWiresAreBusy => Check::Command,
             Wrong::ShowsHiddenAnswers => Check::Answer,
-            Wrong::ShowsHiddenOwners | Wrong::ShowsHiddenDeadTimes => Check::Turn,
+            Wrong::ShowsHiddenOwners | Wrong::ShowsHiddenDeadTimes | Wrong::ShowsHiddenWalks => {
+                Check::Turn
+            }
             // Both lists have too little room, or both more than they need.
             Wrong::AsksRoomForAll | Wrong::SeesClassesAbove => Check::Room,
             _ => panic!("{wrong:?} is not said to leak"),

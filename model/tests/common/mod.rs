@@ -283,5 +283,5 @@ pub fn check_late_request(policy: &Policy) {
     let log = run_fresh(policy, &[0, read_word(0, 1), 0, 0, 0, 0]);
     let commands: Vec<u32> = log.chunks(4).map(|line| line[1]).collect();
     assert_eq!(commands, [0, 0, 0, 0, 0, read_word(0, 1)]);
-    assert_eq!(turns(&log), [2, 0x101]);
+    assert_eq!(turns(&log), [0x2_0002, 0x1_0101]);
 }

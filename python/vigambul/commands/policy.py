@@ -12,6 +12,7 @@ from ..policies import names_beside
 from ..policy_show import answer_words, decode, shown
 from ..policy_text import read_policy_text, text_of
 from ..sign_off import sign_off
+from ..walks import bound_words, walk_bounds
 from ..words import counted, policy_refusal_words
 
 
@@ -24,6 +25,11 @@ def _taken(text, path):
     return data
 
 
+def _walk_lines(data, policy, names):
+    """What the proved library says of the walks of a policy that it takes."""
+    return bound_words(policy, names, walk_bounds(build.library(), data, policy.classes))
+
+
 def check(arguments):
     text = read_policy_text(arguments.text)
     policy = text.policy
@@ -32,6 +38,7 @@ def check(arguments):
     if text.converted:
         print(converted_words(text.clock, text.converted) + "\n")
     data = _taken(text, arguments.text)
+    print("\n".join(["How long walks may be", *("  " + line for line in _walk_lines(data, policy, text.names)), ""]))
     print("The proved reader: taken (0), %d bytes." % len(data))
 
 
@@ -63,7 +70,8 @@ def show(arguments):
     layout = decode(data, names)
     answer = "\n".join(answer_words(layout, status))
     if arguments.form is None:
-        print("\n".join(shown(layout, arguments.file)) + "\n\n" + answer)
+        walks = [] if status else _walk_lines(data, layout.policy, names)
+        print("\n".join([*shown(layout, arguments.file), "", answer, *walks]))
         return 1 if status else 0
     needs = 3 if arguments.form == "toml" else 7
     if 0 < status < needs:
@@ -91,7 +99,8 @@ def add(commands):
     part = parts.add_parser(
         "check",
         help="what a policy text means, for sign-off, and its mistakes",
-        description="Prints the flows, minimums, caps, home turns, what they guarantee, and timing of a policy text, and ends with the proved reader's answer. Mistakes are told all at once; it then ends with 1.",
+        description="Prints the flows, minimums, caps, home turns, what they guarantee, timing, and how long walks may be of a policy text, and ends with the proved reader's answer. "
+        "Mistakes are told all at once; it then ends with 1.",
         epilog="example:\n  vig policy check examples/two-tenants/policy.toml",
     )
     part.add_argument("text", metavar="F.toml", help="a policy text; docs/REFERENCE.md has its keys")
@@ -109,7 +118,7 @@ def add(commands):
         "show",
         help="takes a policy file apart byte by byte, a refused one too",
         description="Shows each byte of a policy file (or of the file that a text makes): its value, what is allowed, and whether it is at fault;\n"
-        "then the proved reader's answer, and the home turns.",
+        "then the proved reader's answer, the home turns, and how long walks may be.",
         epilog="example:\n  vig policy show examples/refused/policy.bin\n  vig policy show examples/diamond/policy.bin --svg > order.svg",
     )
     part.add_argument("file", metavar="F", help="a policy.bin, or any file; a .toml is a policy text")

@@ -6,6 +6,7 @@ from .. import build
 from ..figures import figures_of, figures_over
 from ..folders import folder_at, run_folder, write_file
 from ..report import csv_of, json_of, text_of
+from ..walks import walk_bounds
 from ..words import counted
 
 
@@ -17,7 +18,7 @@ def run(arguments):
         ran = run_folder(library, folder)
         if folder.left_over:
             print("vig: %s: %s left over at the end, which no run takes" % (folder.path / "trace.bin", counted(folder.left_over, "byte")), file=sys.stderr)
-        figures = figures_of(ran)
+        figures = figures_of(ran, walk_bounds(library, folder.policy_bytes, ran.policy.classes))
         print(text_of(figures, ran.names, str(folder.path), arguments.epochs), end="" if len(folders) == 1 else "\n")
         reported.append((str(folder.path), figures, ran.names))
     together = _together(folders, reported)
@@ -44,7 +45,8 @@ def add(commands):
         "report",
         help="what each class got and waited for",
         description="Runs the traces of folders and prints for each class its offers, answers, waits in cycles, turns, home turns, activates\n"
-        "and those that passed an older request, and its turns in an epoch against minimum and cap.",
+        "and those that passed an older request, its turns in an epoch against minimum and cap, and the longest walk\n"
+        "from it against its bound.",
         epilog="examples:\n  vig report examples/two-tenants-busy\n  vig report examples/two-tenants examples/two-tenants-busy --csv figures.csv",
     )
     command.add_argument("folders", metavar="FOLDER", nargs="+", help="a folder with policy.bin and trace.bin")

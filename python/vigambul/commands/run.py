@@ -74,5 +74,6 @@ def add(commands):
         epilog="example:\n  vig run examples/two-tenants --words",
     )
     command.add_argument("folder", metavar="FOLDER", help="a folder with policy.bin and trace.bin")
-    command.add_argument("--words", action="store_true", help="each line in words: cycle, call, wires, who passes older ones, answer, whose turn and home turn starts, dead time kept or dropped, refusal")
+    words = "each line in words: cycle, call, wires, who passes older ones, answer, whose turn and home turn starts, how many classes the walk tried, dead time kept or dropped, refusal"
+    command.add_argument("--words", action="store_true", help=words)
     command.set_defaults(run=run)

@@ -32,7 +32,7 @@ def add(commands):
     command = commands.add_parser(
         "vcd",
         help="a run as a waveform",
-        description="Runs a folder's trace and writes what happened as a waveform (VCD): owner, home turn, dead time, command, answer, and by class name queue lengths,\n"
+        description="Runs a folder's trace and writes what happened as a waveform (VCD): walk, owner, home turn, dead time, command, answer, and by class name queue lengths,\n"
         "how many have passed the oldest request, and turns left.\n"
         "A save file for GTKWave, with the ending .gtkw, is written beside it.",
         epilog="example:\n  vig vcd examples/diamond -o diamond.vcd\n  gtkwave diamond.vcd diamond.gtkw",

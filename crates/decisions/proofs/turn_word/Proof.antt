@@ -8,6 +8,9 @@ use Rattle.decisions.proofs.turn_word.Tie as tie
 cast-number : tie.Need-cast-number
 cast-number c = search needs
 
+mul-field : tie.Need-mul-field
+mul-field c = search needs
+
 add-result : tie.Need-add-result
 add-result c = search needs
 
@@ -20,6 +23,12 @@ add-result-3 c = search needs
 add-result-4 : tie.Need-add-result-4
 add-result-4 c = search needs
 
+add-result-5 : tie.Need-add-result-5
+add-result-5 c = search needs
+
+add-result-6 : tie.Need-add-result-6
+add-result-6 c = search needs
+
 returns : tie.Need-returns
 unfolding turnWord
 returns c = rw (c .if1 .taken)
@@ -31,4 +40,14 @@ returns-2 c = rw (c .if1 .left)
 pub turn-word-spec : {M : Type 1} → statement M
 turn-word-spec =
     tie.close
-    (tie.spec cast-number add-result add-result-2 add-result-3 add-result-4 returns returns-2)
+    (tie.spec
+    cast-number
+    mul-field
+    add-result
+    add-result-2
+    add-result-3
+    add-result-4
+    add-result-5
+    add-result-6
+    returns
+    returns-2)

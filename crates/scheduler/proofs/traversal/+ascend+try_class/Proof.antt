@@ -11,7 +11,7 @@ use Rattle.masks.specs.Mask.{nth}
 use Rattle.order.specs.Order.{strictlyIn, aboveIn}
 use Rattle.basics.proofs.Below.{count-le}
 use Rattle.masks.proofs.Masks.{member-small}
-use Rattle.rules.specs.Traversal.{candidates, movedPointer, passedAt, named, takes, endsAt, tryClass}
+use Rattle.rules.specs.Traversal.{candidates, movedPointer, passedAt, named, takes, Reached, endsAt, alsoTried, tryClass}
 use Rattle.rules.proofs.Traversal.{named-covers, passes-on, try-takes, try-passes, falls as fewer-above, enough}
 use borrow.Fn.Kinds.{In}
 use borrow.Fn.PlainCycle.{Measures, is, falls, and}
@@ -26,6 +26,10 @@ use Rattle.decisions.proofs.moved.Reads as moved-reads
 use Rattle.decisions.proofs.takes.Reads as takes-reads
 use Rattle.scheduler.proofs.traversal.+ascend+try_class.{statement}
 use Rattle.scheduler.proofs.traversal.+ascend+try_class.Tie.{close}
+
+-- one more before is one more in all
+tried-again : (before : ℕ) (r : Reached) → alsoTried (before + 1) r ≡ alsoTried before (alsoTried 1 r)
+tried-again before r = let same : before + 1 + r .tried ≡ before + (1 + r .tried) = omega arith in ap (λ (n : ℕ). record { owner = r .owner; pointers = r .pointers; tried = n }) same
 
 abbrev μ-ascend : Measures 5 ascend-kinds.ps ℕ
 μ-ascend κs a = 2 * aboveIn (a .0 .now) (a .1 .1 .1 .1 .1 .0)
@@ -83,6 +87,9 @@ ascend-element-copy-out-nth t c = search needs
 ascend-nth-requires : (t : ℕ) → ascend-lts.Need-nth-requires (ascend-claims t) (ascend-at t) ascend.Post
 ascend-nth-requires t c κs = search needs
 
+ascend-add-try-class : (t : ℕ) → ascend-lts.Need-add-try-class (ascend-claims t) (ascend-at t) ascend.Post
+ascend-add-try-class t c = search needs
+
 ascend-try-class-requires : (t : ℕ) → ascend-lts.Need-try-class-requires (ascend-claims t) (ascend-at t) ascend.Post
 unfolding named movedPointer
 ascend-try-class-requires t c κs =
@@ -94,11 +101,11 @@ ascend-try-class-requires t c κs =
     let pointers = s .args .pointers .now in
     let class = s .args .class in
     let order = s .pre .1 .0 in
-    let covered = named-covers covers pointers class (order .sets class) (s .pre .1 .3) in
+    let covered = named-covers covers pointers class (order .sets class) (s .pre .1 .4) in
     let next : at-nth .nth .result ≡ named covers pointers class = at-nth .nth .ensures ∙ ap (nth (getD covers class 0)) (at-moved .moved .ensures) in
     let less = subst (λ (j : ℕ). aboveIn rows j < aboveIn rows class) (sym next) (order .falls class (named covers pointers class) covered) in
     let small = subst (λ (j : ℕ). j < 16) (sym next) (member-small (getD covers class 0) (named covers pointers class) (order .sets class) covered) in
-    (omega (arith, s .pre .0, less), (order, small, length-set pointers class (at-moved .moved .result) ∙ s .pre .1 .2))
+    (omega (arith, s .pre .0, less), (order, small, length-set pointers class (at-moved .moved .result) ∙ s .pre .1 .2, omega (arith, s .pre .1 .3, less)))
 
 ascend-returns : (t : ℕ) → ascend-lts.Need-returns (ascend-claims t) (ascend-at t) ascend.Post
 unfolding passedAt named movedPointer
@@ -111,9 +118,10 @@ ascend-returns t c =
     let class = s .args .class in
     let all = candidates covers (s .args .lengths .now) (s .args .left .now) in
     let next : at-nth .nth .result ≡ named covers pointers class = at-nth .nth .ensures ∙ ap (nth (getD covers class 0)) (at-moved .moved .ensures) in
+    let also : Reached → Reached = alsoTried (s .args .before + 1) in
     c .try-class .ensures
-    ∙ ap (λ (v : ℕ). tryClass 16 all (set pointers class v) (at-nth .nth .result)) (at-moved .moved .ensures)
-    ∙ ap (tryClass 16 all (passedAt covers pointers class)) next
+    ∙ ap (λ (v : ℕ). also (tryClass 16 all (set pointers class v) (at-nth .nth .result))) (at-moved .moved .ensures)
+    ∙ ap (λ (d : ℕ). also (tryClass 16 all (passedAt covers pointers class) d)) next
 
 try-class-mul-takes : (t : ℕ) → try-class-lts.Need-mul-takes (try-class-claims t) (try-class-at t) try-class.Post
 try-class-mul-takes t c = search needs
@@ -136,6 +144,9 @@ try-class-element-copy-out-takes-3 t c = search needs
 try-class-takes-requires : (t : ℕ) → try-class-lts.Need-takes-requires (try-class-claims t) (try-class-at t) try-class.Post
 try-class-takes-requires t c κs = search needs
 
+try-class-add-tried : (t : ℕ) → try-class-lts.Need-add-tried (try-class-claims t) (try-class-at t) try-class.Post
+try-class-add-tried t c = search needs
+
 try-class-returns : (t : ℕ) → try-class-lts.Need-returns (try-class-claims t) (try-class-at t) try-class.Post
 unfolding takes endsAt
 try-class-returns t c =
@@ -143,7 +154,7 @@ try-class-returns t c =
     let s = at-takes .before .before .before .before in
     let all = candidates (s .args .covers .now) (s .args .lengths .now) (s .args .left .now) in
     let here : takes all (s .args .class) ≡ true = sym (at-takes .takes .ensures) ∙ c .if1 .taken in
-    sym (try-takes all 16 (s .args .pointers .now) (s .args .class) here)
+    sym (ap (alsoTried (s .args .before)) (try-takes all 16 (s .args .pointers .now) (s .args .class) here))
 
 try-class-ascend-requires : (t : ℕ) → try-class-lts.Need-ascend-requires (try-class-claims t) (try-class-at t) try-class.Post
 unfolding takes
@@ -152,7 +163,7 @@ try-class-ascend-requires t c κs =
     let s = at-takes .before .before .before .before in
     let all = candidates (s .args .covers .now) (s .args .lengths .now) (s .args .left .now) in
     let on : takes all (s .args .class) ≡ false = sym (at-takes .takes .ensures) ∙ c .before .if1 .left in
-    (omega (arith, s .pre .0), (s .pre .1 .0, s .pre .1 .1, s .pre .1 .2, passes-on all (s .args .class) on))
+    (omega (arith, s .pre .0), (s .pre .1 .0, s .pre .1 .1, s .pre .1 .2, s .pre .1 .3, passes-on all (s .args .class) on))
 
 try-class-returns-2 : (t : ℕ) → try-class-lts.Need-returns-2 (try-class-claims t) (try-class-at t) try-class.Post
 unfolding takes aboveIn
@@ -167,9 +178,12 @@ try-class-returns-2 t c =
     let below : aboveIn (s .args .rows .now) (named covers pointers class) ≤ 15 =
     omega (arith, fewer-above all (s .args .rows .now) (s .pre .1 .0) pointers class on, count-le (strictlyIn (s .args .rows .now) class) 16)
     in
+    let onward = tryClass 15 all (passedAt covers pointers class) (named covers pointers class) in
+    let also : Reached → Reached = alsoTried (s .args .before) in
     c .ascend .ensures
-    ∙ sym (enough all (s .args .rows .now) (s .pre .1 .0) 15 (passedAt covers pointers class) (named covers pointers class) below)
-    ∙ sym (try-passes all 15 pointers class on)
+    ∙ ap (alsoTried (s .args .before + 1)) (sym (enough all (s .args .rows .now) (s .pre .1 .0) 15 (passedAt covers pointers class) (named covers pointers class) below))
+    ∙ tried-again (s .args .before) onward
+    ∙ sym (ap also (try-passes all 15 pointers class on))
 
 pub +ascend+try-class-spec : {M : Type 1} → statement M
 +ascend+try-class-spec = close μ-ascend μ-try-class (λ t. ascend-lts.spec (ascend-claims t)
@@ -185,6 +199,7 @@ pub +ascend+try-class-spec : {M : Type 1} → statement M
     (ascend-mul-nth t)
     (ascend-element-copy-out-nth t)
     (ascend-nth-requires t)
+    (ascend-add-try-class t)
     (ascend-try-class-requires t)
     (ascend-returns t))
     λ t. try-class-lts.spec (try-class-claims t)
@@ -197,6 +212,7 @@ pub +ascend+try-class-spec : {M : Type 1} → statement M
     (try-class-mul-takes-3 t)
     (try-class-element-copy-out-takes-3 t)
     (try-class-takes-requires t)
+    (try-class-add-tried t)
     (try-class-returns t)
     (try-class-ascend-requires t)
     (try-class-returns-2 t)

@@ -5,7 +5,7 @@ use mathlib.Core.Path.{_≡_, sym, ap, ap₂, _∙_, subst}
 use mathlib.Core.Logic.{⊎-elim}
 use mathlib.Core.Bool.{Bool, cond, not, _&&_}
 use mathlib.Core.List.{List}
-use Prim.Native.Nat.{ℕ, _%_, _<_}
+use Prim.Native.Nat.{ℕ, _%_, _≤_, _<_}
 use native.Mathlib.Omega.{arith}
 use borrow.Author.Needs.{needs}
 use lib.Dec.{eqb}
@@ -15,10 +15,11 @@ use Rattle.basics.proofs.Truth.{either, on-both}
 use Rattle.policy.proofs.Laws.{policy-laws}
 use Rattle.rules.specs.Traversal.{firstClass, candidates, Reached, endsAt, tryClass, charge, takesHome, leftTried, charged}
 use Rattle.rules.specs.Lookahead.{elides}
-use Rattle.rules.specs.Step.{leftAtStart, turnWord, TurnStart, ownedBy, startTurn}
+use Rattle.rules.specs.Step.{leftAtStart, turnWord, TurnStart, ownedBy, traversal, startTurn}
 use Rattle.state.specs.Stored.{turnsOf}
-use Rattle.rules.proofs.Traversal.{owner-small, climbs, first-small, home-takes, home-idle}
+use Rattle.rules.proofs.Traversal.{owner-small, tried-few, climbs, first-small, home-takes, home-idle}
 use Rattle.scheduler.specs.declared.turning.First.{First}
+use Rattle.scheduler.specs.InPlace.{reachedOf}
 use Rattle.scheduler.proofs.InPlace.{climbs-lent}
 use Rattle.scheduler.proofs.turning.start_turn.Statement.{statement}
 use Rattle.scheduler.proofs.turning.start_turn.Tie as tie
@@ -57,7 +58,7 @@ taken-is c =
 
 -- what it answered
 abbrev reached : tie.After-owner-from → Reached
-reached c = record { owner = c .owner-from .result; pointers = c .owner-from .last .1 .1 .1 .1 .0 }
+reached c = reachedOf (c .owner-from .result) (c .owner-from .last .1 .1 .1 .1 .0)
 
 -- the turns left as the turn starts
 abbrev full : tie.Start → List ℕ
@@ -71,9 +72,7 @@ full-long s =
 
 -- the definition's, from where it starts and by the turns left that it goes by
 abbrev walk : tie.Start → Reached
-walk s =
-    let a = s .args in
-    tryClass 16 (candidates (a .p .covers) (a .lengths .now) (leftTried (a .p) (a .number) (full s))) (a .pointers .now) (firstClass (a .p) (a .number))
+walk s = let a = s .args in traversal (a .p) (a .number) (a .lengths .now) (a .left .now) (a .pointers .now)
 
 -- by the turns left as they are, unless the home class takes the turn
 either-way : (s : tie.Start) → cond (takesHome (s .args .p) (s .args .number) (s .args .lengths .now)) (endsAt (s .args .pointers .now) (firstClass (s .args .p) (s .args .number))) (tryClass 16 (candidates (s .args .p .covers) (s .args .lengths .now) (full s)) (s .args .pointers .now) (firstClass (s .args .p) (s .args .number))) ≡ walk s
@@ -96,21 +95,27 @@ walked c =
     ∙ ap₂ (λ (taken : Bool) (from : ℕ). ends taken (a .p .covers) (full s) from) (taken-is at) (starts-at (at .before))
     ∙ either-way s
 
-owner-here : (c : tie.After-owner-from) → c .owner-from .result < 16
+owner-here : (c : tie.After-owner-from) → c .owner-from .result .owner < 16
 owner-here c =
     let s = at-start c in
     let a = s .args in
     subst (λ (r : Reached). r .owner < 16) (sym (walked c))
     (owner-small (candidates (a .p .covers) (a .lengths .now) (leftTried (a .p) (a .number) (full s))) (a .p .rows) (climbs (a .p) (s .pre .0 .fit)) 16 (a .pointers .now) (firstClass (a .p) (a .number)) (first-small (a .p) (s .pre .0 .fit) (a .number)))
 
+tries-few : (c : tie.After-owner-from) → c .owner-from .result .tried ≤ 17
+tries-few c =
+    let a = at-start c .args in
+    subst (λ (r : Reached). r .tried ≤ 17) (sym (walked c))
+    (tried-few (candidates (a .p .covers) (a .lengths .now) (leftTried (a .p) (a .number) (full (at-start c)))) 16 (a .pointers .now) (firstClass (a .p) (a .number)))
+
 -- ---- the charge
 
-charged-is : (c : tie.After-charge) → c .charge .last .0 ≡ charged (at-start (tried c) .args .p) (at-start (tried c) .args .number) (at-start (tried c) .args .lengths .now) (full (at-start (tried c))) (tried c .owner-from .result)
+charged-is : (c : tie.After-charge) → c .charge .last .0 ≡ charged (at-start (tried c) .args .p) (at-start (tried c) .args .number) (at-start (tried c) .args .lengths .now) (full (at-start (tried c))) (tried c .owner-from .result .owner)
 unfolding charged
 charged-is c =
     let at = at-taken (tried c) in
     c .charge .ensures
-    ∙ ap₂ (λ (taken : Bool) (left : List ℕ). cond taken left (charge left (tried c .owner-from .result))) (taken-is at) (at .before .before .left-at-start .ensures)
+    ∙ ap₂ (λ (taken : Bool) (left : List ℕ). cond taken left (charge left (tried c .owner-from .result .owner))) (taken-is at) (at .before .before .left-at-start .ensures)
 
 -- ----
 
@@ -154,14 +159,16 @@ returns c =
     let p = s .args .p in
     let number = s .args .number in
     let lengths = s .args .lengths .now in
-    let owner = at .owner-from .result in
+    let owner = at .owner-from .result .owner in
+    let tries = at .owner-from .result .tried in
     let owner-is : owner % 16 ≡ owner = omega (arith, owner-here at) in
+    let tries-is : tries % 32 ≡ tries = omega (arith, tries-few at) in
     let pointers = at .owner-from .last .1 .1 .1 .1 .0 in
     let elided : c .before .elides .result ≡ elides p number (charged p number lengths (full s) owner) pointers owner = c .before .elides .ensures ∙ ap (λ (l : List ℕ). elides p number l pointers owner) (charged-is charge-at) in
-    let shown : c .turn-word .result ≡ turnWord owner (c .before .elides .result) = c .turn-word .ensures ∙ ap (λ (o : ℕ). turnWord o (c .before .elides .result)) owner-is in
+    let shown : c .turn-word .result ≡ turnWord owner (c .before .elides .result) tries = c .turn-word .ensures ∙ ap₂ (λ (o n : ℕ). turnWord o (c .before .elides .result) n) owner-is tries-is in
     let one : made owner (c .before .elides .result) (charge-at .charge .last .0) pointers (c .turn-word .result) ≡ ownedBy p number lengths (full s) (reached at) =
     ap (made owner (c .before .elides .result) (charge-at .charge .last .0) pointers) shown
-    ∙ ap₂ (λ (b : Bool) (l : List ℕ). made owner b l pointers (turnWord owner b)) elided (charged-is charge-at)
+    ∙ ap₂ (λ (b : Bool) (l : List ℕ). made owner b l pointers (turnWord owner b tries)) elided (charged-is charge-at)
     in
     one ∙ ap (ownedBy p number lengths (full s)) (walked at)
 

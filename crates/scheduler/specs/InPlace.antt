@@ -17,7 +17,6 @@ use Rattle.state.specs.Range.{inRange}
 use Rattle.rules.specs.Call.{busAt}
 use Rattle.rules.specs.Calls.{Answer}
 use Rattle.wires.specs.InPlace.{NoneUntil}
-use Rattle.scheduler.specs.declared.traversal.Ended.{Ended}
 use Rattle.scheduler.specs.declared.turning.Owned.{Owned}
 use Rattle.scheduler.specs.declared.ticking.Moment.{Moment}
 use Rattle.scheduler.specs.declared.ticking.Called.{Called}
@@ -83,9 +82,9 @@ stateOf m slots heads lengths passed left pointers columns responses banks =
       flight = flightOf columns responses banks (m .last);
     }
 
--- where a traversal in place ended, of its numbers and the pointers
-abbrev pub reachedOf : Ended → List ℕ → Reached
-reachedOf r pointers = record { owner = r .owner; pointers = pointers; tried = r .tried }
+-- where a traversal in place ended: its owner, the pointers, and how many classes it tried
+abbrev pub reachedOf : ℕ → List ℕ → ℕ → Reached
+reachedOf owner pointers tried = record { owner = owner; pointers = pointers; tried = tried }
 
 -- what a tick's first step left, of its numbers and arrays
 abbrev pub startOf : Owned → List ℕ → List ℕ → TurnStart

@@ -8,35 +8,27 @@ ghost use Rattle.rules.specs.Traversal.{candidates, passedAt, named, alsoTried,
 ghost use Rattle.rules.specs.Climb.{Climbs};
 ghost use Rattle.scheduler.specs.InPlace.{reachedOf};
 
-// Where a traversal ended, and how many classes it tried, the owner counted.
-pub struct Ended {
-    pub owner: usize,
-    pub tried: u32,
-}
-
-// A class is tried, after so many before it: it takes the turn, and its pointer stays, or it passes the turn on. The rows are those of the order: what the recursion falls by.
+// A class is tried, and counted: it takes the turn, and its pointer stays, or it passes the turn on. The rows are those of the order: what the recursion falls by. (The count is lent, so that nothing is left to do
+// after the call for the next class, and the two are compiled to a loop.)
 pub(crate) fn try_class(
     rows: &[u16; 16],
     covers: &[u16; 16],
     lengths: &[usize; 16],
     left: &[u32; 16],
     pointers: &mut [usize; 16],
+    tried: &mut u32,
     class: usize,
-    before: u32,
-) -> Ended
+) -> usize
     requires { ⌜ Climbs (now rows) (now covers) × (class < 16) × (length (now pointers) ≡ 16)
-        × (before + aboveIn (now rows) class < 17) ⌝ }
-    ensures { λ r. ⌜ reachedOf r (now (pointers .exit))
-        ≡ alsoTried before (tryClass 16 (candidates (now (covers .entry)) (now (lengths .entry)) (now (left .entry))) (now (pointers .entry)) class) ⌝ }
+        × (now tried + aboveIn (now rows) class < 17) ⌝ }
+    ensures { λ r. ⌜ reachedOf r (now (pointers .exit)) (now (tried .exit)) ≡ alsoTried (now (tried .entry))
+        (tryClass 16 (candidates (now (covers .entry)) (now (lengths .entry)) (now (left .entry))) (now (pointers .entry)) class) ⌝ }
 {
+    *tried = *tried + 1;
     if decisions::takes(covers[class], lengths[class], left[class]) {
-        let tried = before + 1;
-        return Ended {
-            owner: class,
-            tried,
-        };
+        return class;
     }
-    ascend(rows, covers, lengths, left, pointers, class, before)
+    ascend(rows, covers, lengths, left, pointers, tried, class)
 }
 
 // The turn ascends: the class's pointer moves, and the cover that it then names is tried.
@@ -46,17 +38,17 @@ fn ascend(
     lengths: &[usize; 16],
     left: &[u32; 16],
     pointers: &mut [usize; 16],
+    tried: &mut u32,
     class: usize,
-    before: u32,
-) -> Ended
+) -> usize
     requires { ⌜ Climbs (now rows) (now covers) × (class < 16) × (length (now pointers) ≡ 16)
-        × (before + aboveIn (now rows) class < 17) × (getD (now covers) class 0 ≡ 0 → ⊥) ⌝ }
-    ensures { λ r. ⌜ reachedOf r (now (pointers .exit))
-        ≡ alsoTried (before + 1) (tryClass 16 (candidates (now (covers .entry)) (now (lengths .entry)) (now (left .entry)))
+        × (now tried + aboveIn (now rows) class < 18) × (getD (now covers) class 0 ≡ 0 → ⊥) ⌝ }
+    ensures { λ r. ⌜ reachedOf r (now (pointers .exit)) (now (tried .exit)) ≡ alsoTried (now (tried .entry))
+        (tryClass 16 (candidates (now (covers .entry)) (now (lengths .entry)) (now (left .entry)))
         (passedAt (now (covers .entry)) (now (pointers .entry)) class) (named (now (covers .entry)) (now (pointers .entry)) class)) ⌝ }
 {
     let pointer = decisions::moved(covers[class], pointers[class]);
     pointers[class] = pointer;
     let next = masks::nth(covers[class], pointer);
-    try_class(rows, covers, lengths, left, pointers, next, before + 1)
+    try_class(rows, covers, lengths, left, pointers, tried, next)
 }

@@ -19,7 +19,6 @@ ghost use Rattle.state.specs.Stored.{turnsOf};
 use super::lookahead;
 use super::ticking::Moment;
 use super::traversal;
-use super::traversal::Ended;
 use policy::Policy;
 
 // Where a turn's traversal starts: the class, and whether the turn is a home turn, which is then that class's.
@@ -71,27 +70,26 @@ fn takes_home(first: First, lengths: &[usize; 16]) -> bool
     first.home & (lengths[class] != 0)
 }
 
-// The owner of a turn whose traversal starts at a class: that class, where it takes its home turn, and else the one at which the traversal ends. And how many classes were tried.
+// The owner of a turn whose traversal starts at a class: that class, where it takes its home turn, and else the one at which the traversal ends. The classes that are tried are counted, from 0 on.
 fn owner_from(
     rows: &[u16; 16],
     covers: &[u16; 16],
     lengths: &[usize; 16],
     left: &[u32; 16],
     pointers: &mut [usize; 16],
+    tried: &mut u32,
     from: usize,
     taken: bool,
-) -> Ended
-    requires { ⌜ Climbs (now rows) (now covers) × (from < 16) × (length (now pointers) ≡ 16) ⌝ }
-    ensures { λ r. ⌜ reachedOf r (now (pointers .exit)) ≡ cond taken (endsAt (now (pointers .entry)) from)
+) -> usize
+    requires { ⌜ Climbs (now rows) (now covers) × (from < 16) × (length (now pointers) ≡ 16) × (now tried ≡ 0) ⌝ }
+    ensures { λ r. ⌜ reachedOf r (now (pointers .exit)) (now (tried .exit)) ≡ cond taken (endsAt (now (pointers .entry)) from)
         (tryClass 16 (candidates (now (covers .entry)) (now (lengths .entry)) (now (left .entry))) (now (pointers .entry)) from) ⌝ }
 {
     if taken {
-        return Ended {
-            owner: from,
-            tried: 1,
-        };
+        *tried = 1;
+        return from;
     }
-    traversal::try_class(rows, covers, lengths, left, pointers, from, 0)
+    traversal::try_class(rows, covers, lengths, left, pointers, tried, from)
 }
 
 // The owner's turns left fall by 1, not below 0. A class that takes its home turn is not charged.
@@ -153,8 +151,17 @@ fn start_turn(
     left_at_start(p, number, caps, left);
     let first = first_class(p, bottom, free, number);
     let taken = takes_home(first, lengths);
-    let ended = owner_from(rows, covers, lengths, left, pointers, first.class, taken);
-    let owner = ended.owner;
+    let mut tried = 0u32;
+    let owner = owner_from(
+        rows,
+        covers,
+        lengths,
+        left,
+        pointers,
+        &mut tried,
+        first.class,
+        taken,
+    );
     charge(left, owner, taken);
     let elided = elides(
         p,
@@ -168,7 +175,7 @@ fn start_turn(
         pointers,
         owner,
     );
-    let shown = decisions::turn_word(owner, elided, ended.tried);
+    let shown = decisions::turn_word(owner, elided, tried);
     Owned {
         owner,
         elided,

@@ -31,24 +31,24 @@ use Rattle.scheduler.proofs.traversal.+ascend+try_class.Tie.{close}
 tried-again : (before : ℕ) (r : Reached) → alsoTried (before + 1) r ≡ alsoTried before (alsoTried 1 r)
 tried-again before r = let same : before + 1 + r .tried ≡ before + (1 + r .tried) = omega arith in ap (λ (n : ℕ). record { owner = r .owner; pointers = r .pointers; tried = n }) same
 
-abbrev μ-ascend : Measures 5 ascend-kinds.ps ℕ
-μ-ascend κs a = 2 * aboveIn (a .0 .now) (a .1 .1 .1 .1 .1 .0)
+abbrev μ-ascend : Measures 6 ascend-kinds.ps ℕ
+μ-ascend κs a = 2 * aboveIn (a .0 .now) (a .1 .1 .1 .1 .1 .1 .0)
 
-abbrev μ-try-class : Measures 5 try-class-kinds.ps ℕ
-μ-try-class κs a = 2 * aboveIn (a .0 .now) (a .1 .1 .1 .1 .1 .0) + 1
+abbrev μ-try-class : Measures 6 try-class-kinds.ps ℕ
+μ-try-class κs a = 2 * aboveIn (a .0 .now) (a .1 .1 .1 .1 .1 .1 .0) + 1
 
-abbrev ascend-at : ℕ → In 5 ascend-kinds.ps
-ascend-at t = and 5 ascend-kinds.ps (is 5 ascend-kinds.ps μ-ascend t) ascend.Pre
+abbrev ascend-at : ℕ → In 6 ascend-kinds.ps
+ascend-at t = and 6 ascend-kinds.ps (is 6 ascend-kinds.ps μ-ascend t) ascend.Pre
 
-abbrev ascend-below : ℕ → In 5 ascend-kinds.ps
-ascend-below t = and 5 ascend-kinds.ps (falls 5 ascend-kinds.ps _<_ μ-ascend t) ascend.Pre
+abbrev ascend-below : ℕ → In 6 ascend-kinds.ps
+ascend-below t = and 6 ascend-kinds.ps (falls 6 ascend-kinds.ps _<_ μ-ascend t) ascend.Pre
 
-abbrev try-class-at : ℕ → In 5 try-class-kinds.ps
-try-class-at t = and 5 try-class-kinds.ps (is 5 try-class-kinds.ps μ-try-class t) try-class.Pre
+abbrev try-class-at : ℕ → In 6 try-class-kinds.ps
+try-class-at t = and 6 try-class-kinds.ps (is 6 try-class-kinds.ps μ-try-class t) try-class.Pre
 
-abbrev try-class-below : ℕ → In 5 try-class-kinds.ps
+abbrev try-class-below : ℕ → In 6 try-class-kinds.ps
 try-class-below t =
-    and 5 try-class-kinds.ps (falls 5 try-class-kinds.ps _<_ μ-try-class t) try-class.Pre
+    and 6 try-class-kinds.ps (falls 6 try-class-kinds.ps _<_ μ-try-class t) try-class.Pre
 
 -- what each asks of the functions that it calls and learns of them, the other one among them
 abbrev ascend-claims : ℕ → ascend-lts.Claims
@@ -87,13 +87,10 @@ ascend-element-copy-out-nth t c = search needs
 ascend-nth-requires : (t : ℕ) → ascend-lts.Need-nth-requires (ascend-claims t) (ascend-at t) ascend.Post
 ascend-nth-requires t c κs = search needs
 
-ascend-add-try-class : (t : ℕ) → ascend-lts.Need-add-try-class (ascend-claims t) (ascend-at t) ascend.Post
-ascend-add-try-class t c = search needs
-
 ascend-try-class-requires : (t : ℕ) → ascend-lts.Need-try-class-requires (ascend-claims t) (ascend-at t) ascend.Post
 unfolding named movedPointer
 ascend-try-class-requires t c κs =
-    let at-nth = c .before in
+    let at-nth = c .before .before in
     let at-moved = at-nth .before .before in
     let s = at-moved .before .before .before in
     let rows = s .args .rows .now in
@@ -110,7 +107,7 @@ ascend-try-class-requires t c κs =
 ascend-returns : (t : ℕ) → ascend-lts.Need-returns (ascend-claims t) (ascend-at t) ascend.Post
 unfolding passedAt named movedPointer
 ascend-returns t c =
-    let at-nth = c .before .before in
+    let at-nth = c .before .before .before in
     let at-moved = at-nth .before .before in
     let s = at-moved .before .before .before in
     let covers = s .args .covers .now in
@@ -118,10 +115,13 @@ ascend-returns t c =
     let class = s .args .class in
     let all = candidates covers (s .args .lengths .now) (s .args .left .now) in
     let next : at-nth .nth .result ≡ named covers pointers class = at-nth .nth .ensures ∙ ap (nth (getD covers class 0)) (at-moved .moved .ensures) in
-    let also : Reached → Reached = alsoTried (s .args .before + 1) in
+    let also : Reached → Reached = alsoTried (s .args .tried .now) in
     c .try-class .ensures
     ∙ ap (λ (v : ℕ). also (tryClass 16 all (set pointers class v) (at-nth .nth .result))) (at-moved .moved .ensures)
     ∙ ap (λ (d : ℕ). also (tryClass 16 all (passedAt covers pointers class) d)) next
+
+try-class-add-tried : (t : ℕ) → try-class-lts.Need-add-tried (try-class-claims t) (try-class-at t) try-class.Post
+try-class-add-tried t c = search needs
 
 try-class-mul-takes : (t : ℕ) → try-class-lts.Need-mul-takes (try-class-claims t) (try-class-at t) try-class.Post
 try-class-mul-takes t c = search needs
@@ -144,45 +144,42 @@ try-class-element-copy-out-takes-3 t c = search needs
 try-class-takes-requires : (t : ℕ) → try-class-lts.Need-takes-requires (try-class-claims t) (try-class-at t) try-class.Post
 try-class-takes-requires t c κs = search needs
 
-try-class-add-tried : (t : ℕ) → try-class-lts.Need-add-tried (try-class-claims t) (try-class-at t) try-class.Post
-try-class-add-tried t c = search needs
-
 try-class-returns : (t : ℕ) → try-class-lts.Need-returns (try-class-claims t) (try-class-at t) try-class.Post
 unfolding takes endsAt
 try-class-returns t c =
     let at-takes = c .before in
-    let s = at-takes .before .before .before .before in
+    let s = at-takes .before .before .before .before .before in
     let all = candidates (s .args .covers .now) (s .args .lengths .now) (s .args .left .now) in
     let here : takes all (s .args .class) ≡ true = sym (at-takes .takes .ensures) ∙ c .if1 .taken in
-    sym (ap (alsoTried (s .args .before)) (try-takes all 16 (s .args .pointers .now) (s .args .class) here))
+    sym (ap (alsoTried (s .args .tried .now)) (try-takes all 16 (s .args .pointers .now) (s .args .class) here))
 
 try-class-ascend-requires : (t : ℕ) → try-class-lts.Need-ascend-requires (try-class-claims t) (try-class-at t) try-class.Post
 unfolding takes
 try-class-ascend-requires t c κs =
-    let at-takes = c .before .before in
-    let s = at-takes .before .before .before .before in
+    let at-takes = c .before .before .before in
+    let s = at-takes .before .before .before .before .before in
     let all = candidates (s .args .covers .now) (s .args .lengths .now) (s .args .left .now) in
-    let on : takes all (s .args .class) ≡ false = sym (at-takes .takes .ensures) ∙ c .before .if1 .left in
-    (omega (arith, s .pre .0), (s .pre .1 .0, s .pre .1 .1, s .pre .1 .2, s .pre .1 .3, passes-on all (s .args .class) on))
+    let on : takes all (s .args .class) ≡ false = sym (at-takes .takes .ensures) ∙ c .before .before .if1 .left in
+    (omega (arith, s .pre .0), (s .pre .1 .0, s .pre .1 .1, s .pre .1 .2, omega (arith, s .pre .1 .3), passes-on all (s .args .class) on))
 
 try-class-returns-2 : (t : ℕ) → try-class-lts.Need-returns-2 (try-class-claims t) (try-class-at t) try-class.Post
 unfolding takes aboveIn
 try-class-returns-2 t c =
-    let at-takes = c .before .before .before in
-    let s = at-takes .before .before .before .before in
+    let at-takes = c .before .before .before .before in
+    let s = at-takes .before .before .before .before .before in
     let covers = s .args .covers .now in
     let pointers = s .args .pointers .now in
     let class = s .args .class in
     let all = candidates covers (s .args .lengths .now) (s .args .left .now) in
-    let on : takes all class ≡ false = sym (at-takes .takes .ensures) ∙ c .before .before .if1 .left in
+    let on : takes all class ≡ false = sym (at-takes .takes .ensures) ∙ c .before .before .before .if1 .left in
     let below : aboveIn (s .args .rows .now) (named covers pointers class) ≤ 15 =
     omega (arith, fewer-above all (s .args .rows .now) (s .pre .1 .0) pointers class on, count-le (strictlyIn (s .args .rows .now) class) 16)
     in
     let onward = tryClass 15 all (passedAt covers pointers class) (named covers pointers class) in
-    let also : Reached → Reached = alsoTried (s .args .before) in
+    let also : Reached → Reached = alsoTried (s .args .tried .now) in
     c .ascend .ensures
-    ∙ ap (alsoTried (s .args .before + 1)) (sym (enough all (s .args .rows .now) (s .pre .1 .0) 15 (passedAt covers pointers class) (named covers pointers class) below))
-    ∙ tried-again (s .args .before) onward
+    ∙ ap (alsoTried (s .args .tried .now + 1)) (sym (enough all (s .args .rows .now) (s .pre .1 .0) 15 (passedAt covers pointers class) (named covers pointers class) below))
+    ∙ tried-again (s .args .tried .now) onward
     ∙ sym (ap also (try-passes all 15 pointers class on))
 
 pub +ascend+try-class-spec : {M : Type 1} → statement M
@@ -199,12 +196,12 @@ pub +ascend+try-class-spec : {M : Type 1} → statement M
     (ascend-mul-nth t)
     (ascend-element-copy-out-nth t)
     (ascend-nth-requires t)
-    (ascend-add-try-class t)
     (ascend-try-class-requires t)
     (ascend-returns t))
     λ t. try-class-lts.spec (try-class-claims t)
     (try-class-at t)
     try-class.Post
+    (try-class-add-tried t)
     (try-class-mul-takes t)
     (try-class-element-copy-out-takes t)
     (try-class-mul-takes-2 t)
@@ -212,7 +209,6 @@ pub +ascend+try-class-spec : {M : Type 1} → statement M
     (try-class-mul-takes-3 t)
     (try-class-element-copy-out-takes-3 t)
     (try-class-takes-requires t)
-    (try-class-add-tried t)
     (try-class-returns t)
     (try-class-ascend-requires t)
     (try-class-returns-2 t)

@@ -16,14 +16,16 @@ returns c = rw (c .if1 .taken)
 try-class-requires : tie.Need-try-class-requires
 unfolding aboveIn
 try-class-requires c κs =
-    let s = c .before .before in
-    (s .pre .0, s .pre .1, s .pre .2, omega (arith, count-le (strictlyIn (s .args .rows .now) (s .args .from)) 16))
+    let s = c .before .before .before in
+    (s .pre .0, s .pre .1, s .pre .2, omega (arith, s .pre .3, count-le (strictlyIn (s .args .rows .now) (s .args .from)) 16))
 
-none-before : (r : Reached) → alsoTried 0 r ≡ r
-none-before r = let same : 0 + r .tried ≡ r .tried = omega arith in ap (λ (n : ℕ). record { owner = r .owner; pointers = r .pointers; tried = n }) same
+none-before : (before : ℕ) (r : Reached) → before ≡ 0 → alsoTried before r ≡ r
+none-before before r none = let same : before + r .tried ≡ r .tried = omega (arith, none) in ap (λ (n : ℕ). record { owner = r .owner; pointers = r .pointers; tried = n }) same
 
 returns-2 : tie.Need-returns-2
-returns-2 c = rw (c .before .before .if1 .left) (c .try-class .ensures ∙ none-before _)
+returns-2 c =
+    let test = c .before .before .before in
+    rw (test .if1 .left) (c .try-class .ensures ∙ none-before _ _ (test .before .pre .3))
 
 pub owner-from-spec : {M : Type 1} → statement M
 owner-from-spec = tie.close (tie.spec returns try-class-requires returns-2)

@@ -1,7 +1,7 @@
 -- `scheduler::turning::start_turn` meets its contract. Where the home class takes the turn, the definition's traversal, which tries it as one with a turn left, ends at it; elsewhere
 -- that makes no difference to the traversal. Each later call adds its part of the definition.
 -- Assumes nothing.
-use mathlib.Core.Path.{_≡_, sym, ap, ap₂, _∙_, subst}
+use mathlib.Core.Path.{_≡_, refl, sym, ap, ap₂, _∙_, subst}
 use mathlib.Core.Logic.{⊎-elim}
 use mathlib.Core.Bool.{Bool, cond, not, _&&_}
 use mathlib.Core.List.{List}
@@ -30,7 +30,7 @@ abbrev start-first : tie.After-first-class → tie.Start
 start-first c = c .before .before .before
 
 abbrev at-taken : tie.After-owner-from → tie.After-takes-home
-at-taken c = c .before .before .before
+at-taken c = c .before .before .before .before
 
 abbrev at-start : tie.After-owner-from → tie.Start
 at-start c = start-first (at-taken c .before)
@@ -58,7 +58,7 @@ taken-is c =
 
 -- what it answered
 abbrev reached : tie.After-owner-from → Reached
-reached c = reachedOf (c .owner-from .result) (c .owner-from .last .1 .1 .1 .1 .0)
+reached c = reachedOf (c .owner-from .result) (c .owner-from .last .1 .1 .1 .1 .0) (c .owner-from .last .1 .1 .1 .1 .1 .0)
 
 -- the turns left as the turn starts
 abbrev full : tie.Start → List ℕ
@@ -95,14 +95,14 @@ walked c =
     ∙ ap₂ (λ (taken : Bool) (from : ℕ). ends taken (a .p .covers) (full s) from) (taken-is at) (starts-at (at .before))
     ∙ either-way s
 
-owner-here : (c : tie.After-owner-from) → c .owner-from .result .owner < 16
+owner-here : (c : tie.After-owner-from) → c .owner-from .result < 16
 owner-here c =
     let s = at-start c in
     let a = s .args in
     subst (λ (r : Reached). r .owner < 16) (sym (walked c))
     (owner-small (candidates (a .p .covers) (a .lengths .now) (leftTried (a .p) (a .number) (full s))) (a .p .rows) (climbs (a .p) (s .pre .0 .fit)) 16 (a .pointers .now) (firstClass (a .p) (a .number)) (first-small (a .p) (s .pre .0 .fit) (a .number)))
 
-tries-few : (c : tie.After-owner-from) → c .owner-from .result .tried ≤ 17
+tries-few : (c : tie.After-owner-from) → c .owner-from .last .1 .1 .1 .1 .1 .0 ≤ 17
 tries-few c =
     let a = at-start c .args in
     subst (λ (r : Reached). r .tried ≤ 17) (sym (walked c))
@@ -110,12 +110,12 @@ tries-few c =
 
 -- ---- the charge
 
-charged-is : (c : tie.After-charge) → c .charge .last .0 ≡ charged (at-start (tried c) .args .p) (at-start (tried c) .args .number) (at-start (tried c) .args .lengths .now) (full (at-start (tried c))) (tried c .owner-from .result .owner)
+charged-is : (c : tie.After-charge) → c .charge .last .0 ≡ charged (at-start (tried c) .args .p) (at-start (tried c) .args .number) (at-start (tried c) .args .lengths .now) (full (at-start (tried c))) (tried c .owner-from .result)
 unfolding charged
 charged-is c =
     let at = at-taken (tried c) in
     c .charge .ensures
-    ∙ ap₂ (λ (taken : Bool) (left : List ℕ). cond taken left (charge left (tried c .owner-from .result .owner))) (taken-is at) (at .before .before .left-at-start .ensures)
+    ∙ ap₂ (λ (taken : Bool) (left : List ℕ). cond taken left (charge left (tried c .owner-from .result))) (taken-is at) (at .before .before .left-at-start .ensures)
 
 -- ----
 
@@ -134,9 +134,9 @@ takes-home-requires c κs = starts-small c
 
 owner-from-requires : tie.Need-owner-from-requires
 owner-from-requires c κs =
-    let first = c .before .before .before in
+    let first = c .before .before .before .before in
     let s = start-first first in
-    (climbs-lent (s .args .p) (s .args .bottom) (s .args .free) (s .args .rows .now) (s .args .covers .now) (s .args .caps .now) (s .pre .0), starts-small first, s .pre .3)
+    (climbs-lent (s .args .p) (s .args .bottom) (s .args .free) (s .args .rows .now) (s .args .covers .now) (s .args .caps .now) (s .pre .0), starts-small first, s .pre .3, refl)
 
 charge-requires : tie.Need-charge-requires
 charge-requires c κs = owner-here (c .before)
@@ -159,8 +159,8 @@ returns c =
     let p = s .args .p in
     let number = s .args .number in
     let lengths = s .args .lengths .now in
-    let owner = at .owner-from .result .owner in
-    let tries = at .owner-from .result .tried in
+    let owner = at .owner-from .result in
+    let tries = at .owner-from .last .1 .1 .1 .1 .1 .0 in
     let owner-is : owner % 16 ≡ owner = omega (arith, owner-here at) in
     let tries-is : tries % 32 ≡ tries = omega (arith, tries-few at) in
     let pointers = at .owner-from .last .1 .1 .1 .1 .0 in

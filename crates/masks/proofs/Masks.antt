@@ -11,10 +11,10 @@ use borrow.Author.Tests.{eq-eqb, ne-eqb, eqb-true, lt-ltb, le-ltb}
 use lib.Dec.{eqb, ltb, lit<}
 use lib.Bits.{bitOr, bitXor, or-shr, or-mod, or-lt, xor-shr, xor-mod, xor-lt}
 use lib.Pow.{pow-pos, pow-mono, pow-lt, field, mod-mod-pow, low, high, shr-lt}
-use Rattle.basics.specs.Below.{sum, setOf}
+use Rattle.basics.specs.Below.{some, sum, setOf}
 use Rattle.masks.specs.Mask.{member, includes, difference, classMask, belowMask}
 use Rattle.basics.proofs.Truth.{either, not-both, same-truth, implies, implication, or-right, or-implied}
-use Rattle.basics.proofs.Below.{lt-or-ge, at-or-below, every-at, every-all}
+use Rattle.basics.proofs.Below.{lt-or-ge, at-or-below, every-at, every-all, some-found, none-at}
 
 -- ---- single bits
 
@@ -97,6 +97,13 @@ member-small m j h e = ⊎-elim (λ l. l) (λ l. absurd (not-both e (member-over
 
 pub member-zero : (j : ℕ) → member 0 j ≡ false
 member-zero j = member-over 0 0 j (lit< tt) zero-le
+
+-- a set without members is the empty one, and another has one
+pub no-members : (m : ℕ) → m < 2 ^ 16 → some 16 (member m) ≡ false → m ≡ 0
+no-members m h e = same-members m 0 h (lit< tt) (λ j l. none-at (member m) 16 e j l ∙ sym (member-zero j))
+
+pub some-member : (m : ℕ) → m < 2 ^ 16 → ((m ≡ 0) → ⊥) → (j : ℕ) × (j < 16) × (member m j ≡ true)
+some-member m h full = ⊎-elim (some-found (member m) 16) (λ t. absurd (full (no-members m h t))) (either (some 16 (member m)))
 
 -- a power of two has one member
 pub member-power : (c j : ℕ) → member (2 ^ c) j ≡ eqb c j

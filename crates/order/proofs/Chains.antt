@@ -4,7 +4,7 @@
 -- Assumes nothing.
 use mathlib.Core.Path.{_≡_, refl, sym, ap, _∙_, subst}
 use mathlib.Core.Logic.{⊎-elim}
-use mathlib.Core.Bool.{Bool, true, false, _&&_}
+use mathlib.Core.Bool.{Bool, true, _&&_}
 use mathlib.Core.List.{List, [], _∷_, _++_}
 use Prim.Native.Nat.{ℕ, zero, suc, _+_, _-_, _^_, _≤_, _<_, zero-le}
 use native.Mathlib.Nat.{le-refl, add-zero}
@@ -20,18 +20,9 @@ use Rattle.order.specs.Order.{strictlyIn, aboveSome, aboveIn, risenTo, l
 use Rattle.order.specs.Chains.{rising, Longest}
 use Rattle.basics.proofs.Truth.{either, false-unless, not-both, and-left, and-right, and-both}
 use Rattle.basics.proofs.Below.{First, lt-or-ge, some-at, some-found, none-at, first-found, first-none}
-use Rattle.masks.proofs.Masks.{same-members, member-small, member-zero, setOf-below, member-setOf, member-classMask}
+use Rattle.masks.proofs.Masks.{member-small, member-zero, no-members, some-member, setOf-below, member-setOf, member-classMask}
 
 -- ---- sets
-
--- a set without members is the empty one
-pub no-members : (m : ℕ) → m < 2 ^ 16 → some 16 (member m) ≡ false → m ≡ 0
-no-members m h e = same-members m 0 h (lit< tt) (λ j l. none-at (member m) 16 e j l ∙ sym (member-zero j))
-
--- and another has one
-some-member : (m : ℕ) → m < 2 ^ 16 → ((m ≡ 0) → ⊥) → (j : ℕ) × (member m j ≡ true)
-some-member m h apart =
-    ⊎-elim (λ t. let w = some-found (member m) 16 t in (w .0, w .2)) (λ t. absurd (apart (no-members m h t))) (either (some 16 (member m)))
 
 classMask-small : (c : ℕ) → classMask c < 2 ^ 16
 unfolding classMask
@@ -127,7 +118,7 @@ module _ (rows : List ℕ) where
     longest-at : (i k : ℕ) → i < 16 → ((risenTo rows i k ≡ 0) → ⊥) → ((js : List ℕ) → rising rows i js ≡ true → length js ≤ k) → Longest rows i (k + 1)
     longest-at i k l there none =
         let at = some-member (risenTo rows i k) (risen-small i k) there in
-        let w = chain-to i k (at .0) (at .1) in
+        let w = chain-to i k (at .0) (at .2) in
         record { chain = w .0; rises = w .1; so-many = ap (λ (n : ℕ). n + 1) (w .2); none-longer = λ js rises. omega (arith, none js rises) }
 
     -- a chain of more than k steps would end in a set that is empty

@@ -21,6 +21,7 @@ use Rattle.policy.specs.declared.Policy.{Policy}
 use Rattle.policy.specs.declared.Bound.{Bound}
 use Rattle.basics.proofs.Truth.{either, false-unless, not-both, and-left, and-right, and-both}
 use Rattle.basics.proofs.Below.{some-found}
+use Rattle.masks.proofs.Masks.{no-members}
 use Rattle.order.proofs.Orders as orders
 use Rattle.order.proofs.Chains as chains
 
@@ -92,7 +93,7 @@ module _ (p : Policy) (given : inRange p ≡ true) (order : OrderLaws p) (lowest
   -- a class above which no chain goes on has no cover: one would be a chain
   no-cover : (c : ℕ) → walkBound p c ≡ 1 → coversOf p c ≡ 0
   no-cover c one =
-      chains.no-members (coversOf p c) (covering .sets c)
+      no-members (coversOf p c) (covering .sets c)
       (false-unless (some 16 (member (coversOf p c)))
       (λ t.
       let w = some-found (member (coversOf p c)) 16 t in

@@ -10,17 +10,16 @@ use Prim.Native.Nat.{ℕ, zero, suc, _+_, _^_, _≤_, _<_}
 use native.Mathlib.Nat.{not-suc-le-zero}
 use native.Mathlib.Omega.{arith}
 use borrow.Author.Tests.{eqb-true, eqb-false, eq-eqb, ne-eqb, lt-ltb, le-ltb}
-use lib.Dec.{eqb, lit<}
+use lib.Dec.{eqb}
 use lib.ListN.{length, getD}
 use lib.Seq.{getD-set-same, getD-set-other}
-use Rattle.basics.specs.Below.{some}
 use Rattle.masks.specs.Mask.{member, size}
 use Rattle.order.specs.Order.{aboveIn}
 use Rattle.policy.specs.Policy.{isClass, flows, strictly, least, above, coversOf, homeTurn, homeClass, inRange}
 use Rattle.policy.specs.declared.Policy.{Policy}
 use Rattle.basics.proofs.Truth.{either, not-both, and-left, and-right, and-fails-left, or-right, or-cases, not-not, on-true, on-false}
-use Rattle.basics.proofs.Below.{lt-or-ge, some-found, none-at, count-yes, count-mono}
-use Rattle.masks.proofs.Masks.{same-members, member-zero, member-small}
+use Rattle.basics.proofs.Below.{lt-or-ge, count-yes, count-mono}
+use Rattle.masks.proofs.Masks.{some-member, member-zero, member-small}
 use Rattle.masks.proofs.Numbered as numbered
 use Rattle.order.proofs.Orders.{apart-strictly, strictly-flows}
 use Rattle.policy.proofs.Laws.{policy-laws}
@@ -31,15 +30,11 @@ use Rattle.rules.specs.Laws.{Ascends}
 -- ---- where a moved pointer leads
 
 -- a set that is not empty has a member, so its size is at least 1
-some-member : (m : ℕ) → m < 2 ^ 16 → ((m ≡ 0) → ⊥) → 1 ≤ size m
+some-size : (m : ℕ) → m < 2 ^ 16 → ((m ≡ 0) → ⊥) → 1 ≤ size m
 unfolding size
-some-member m small full =
-    ⊎-elim
-    (λ t.
-    let w = some-found (member m) 16 t in
-    omega (arith, count-yes (member m) (w .0) (w .2), count-mono (member m) (w .0 + 1) 16 (omega (arith, w .1))))
-    (λ t. absurd (full (same-members m 0 small (lit< tt) (λ j l. none-at (member m) 16 t j l ∙ sym (member-zero j)))))
-    (either (some 16 (member m)))
+some-size m small full =
+    let w = some-member m small full in
+    omega (arith, count-yes (member m) (w .0) (w .2), count-mono (member m) (w .0 + 1) 16 (omega (arith, w .1)))
 
 -- a pointer is the number of one of the covers
 pub record Names (covers pointer : ℕ) : Type 0 where
@@ -52,7 +47,7 @@ unfolding moved
 moved-names m pointer small full =
     ⊎-elim
     (λ l. rw (ne-eqb m 0 full, lt-ltb pointer (size m) l) (record { some = omega arith; within = omega arith }))
-    (λ l. rw (ne-eqb m 0 full, le-ltb pointer (size m) l) (record { some = omega arith; within = some-member m small full }))
+    (λ l. rw (ne-eqb m 0 full, le-ltb pointer (size m) l) (record { some = omega arith; within = some-size m small full }))
     (lt-or-ge pointer (size m))
 
 -- so the cover that it names is one

@@ -116,6 +116,12 @@ module _ (p : Policy) (given : policyInRange p ≡ true) where
       let tried = tried-rises lengths left bound pointers c in
       subst (λ (n : ℕ). n ≤ walkBound p c) (tried .all) (policy-laws p given .chains .longest c class .none-longer (tried .chain) (tried .rises))
 
+  bounded-anywhere : (s : State) → inRange p s ≡ true → tickStarts p s ≡ true → triedShown (answerTo p s 0 .turn) ≤ walkBound p (triedFirst p s)
+  unfolding tickTries
+  bounded-anywhere s fits starts =
+      subst (λ (n : ℕ). n ≤ walkBound p (triedFirst p s)) (sym (shows-tries s fits starts))
+      (within-bound _ _ 16 (s .turns .pointers) (triedFirst p s) (first-class p given (turnNumber p (s .cycle))))
+
   module _ (ws : List ℕ) (k : ℕ) (started : Started p ws k) where
     shows-walk : walkShown p ws k ≡ list.walk p given ws k .tried
     shows-walk =
@@ -276,6 +282,7 @@ module _ (p : Policy) (given : policyInRange p ≡ true) where
       record {
         counted = counted;
         bounded = bounded;
+        bounded-anywhere = bounded-anywhere;
         one-cycle = one-cycle;
         sharp = sharp;
         field-alone = λ ws. log-without ws (freshState p) (fresh-fits p given);

@@ -18,7 +18,7 @@ use Rattle.state.specs.declared.State.{State}
 use Rattle.rules.specs.Traversal.{firstClass, Reached, alsoTried, tryClass}
 use Rattle.rules.specs.Step.{ownedBy}
 use Rattle.rules.specs.Calls.{answerTo, logOf}
-use Rattle.rules.specs.RoundRobin.{seenAt, tickStarts, tickPasses, turnsAfter}
+use Rattle.rules.specs.RoundRobin.{seenAt, triedFirst, tickStarts, tickPasses, turnsAfter}
 use Rattle.rules.specs.Guarantees.{atTick, firstTick, Started}
 
 -- ---- what a turn number shows
@@ -72,6 +72,8 @@ pub record WalkLength (p : Policy) : Type 0 where
   pub counted : (s : State) → inRange p s ≡ true → tickStarts p s ≡ true → triedShown (answerTo p s 0 .turn) ≡ count 16 (tickPasses p s) + 1
   -- "It is never above the number of classes on the longest rising chain from the walk's first class." (`Longest` says what that number is: crate `order`.)
   pub bounded : (ws : List ℕ) (k : ℕ) → Started p ws k → (1 ≤ walkShown p ws k) × (walkShown p ws k ≤ walkBound p (firstClass p k))
+  -- and so from every state in range, whether a list leads there or not
+  pub bounded-anywhere : (s : State) → inRange p s ≡ true → tickStarts p s ≡ true → triedShown (answerTo p s 0 .turn) ≤ walkBound p (triedFirst p s)
   -- "Hardware must finish the walk in one cycle": whichever class a walk starts at, it tries no more than the longest rising chain from the least class has
   pub one-cycle : (ws : List ℕ) (k : ℕ) → Started p ws k → walkShown p ws k ≤ walkBound p (least p)
   -- and no smaller number would do, of any class

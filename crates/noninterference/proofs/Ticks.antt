@@ -3,7 +3,7 @@
 use mathlib.Core.Path.{_≡_, refl, sym, ap, ap₂, _∙_, subst}
 use mathlib.Core.Logic.{⊎-elim}
 use mathlib.Core.Bool.{Bool, true, false, cond, not, _&&_}
-use Prim.Native.Nat.{ℕ, _+_, _*_, _-_, _%_, _<_}
+use Prim.Native.Nat.{ℕ, _+_, _-_, _%_, _<_}
 use native.Mathlib.Nat.{not-suc-le-zero}
 use native.Mathlib.Omega.{arith}
 use borrow.Author.Tests.{ne-eqb}
@@ -22,7 +22,7 @@ use Rattle.rules.specs.History.{Held}
 use Rattle.requests.specs.declared.Wires.{Wires}
 use Rattle.state.specs.declared.Turns.{Turns}
 use Rattle.state.specs.declared.State.{State}
-use Rattle.rules.proofs.Step.{outcome, triedAt, turn-shown}
+use Rattle.rules.proofs.Step.{word-owner, outcome, triedAt, turn-shown}
 use Rattle.rules.proofs.TurnsKept.{turns-kept}
 use Rattle.rules.proofs.PendingWords.{inside}
 use Rattle.rules.proofs.Range.{Ranged, ranged, BusRange, bus-range}
@@ -41,18 +41,14 @@ unfolding activated
 still-long b long =
     outcome b (λ d. length (d .flight .responses) ≡ 32) (λ due. long) (λ due e. length-set (b .flight .responses) ((b .cycle + b .timing .response) % 32) (going b) ∙ long) (λ due stays. long)
 
--- the owner that a turn number names
-named-owner : (owner : ℕ) (elided : Bool) (tried : ℕ) → owner < 16 → (1 + owner + cond elided 256 0 + 65536 * tried) % 256 - 1 ≡ owner
-named-owner owner true tried small = omega (arith, small)
-named-owner owner false tried small = omega (arith, small)
-
 -- the turn number of a high owner is hidden
 high-turn : (low : ℕ → Bool) (owner : ℕ) (elided : Bool) (tried : ℕ) → owner < 16 → low owner ≡ false → hideTurn low (turnWord owner elided tried) ≡ 512
-unfolding hideTurn ownerSeen turnWord
+unfolding hideTurn ownerSeen
 high-turn low owner elided tried small high =
-    let w = 1 + owner + cond elided 256 0 + 65536 * tried in
-    let named : w % 256 - 1 ≡ owner = named-owner owner elided tried small in
-    ap (λ (b : Bool). cond b 0 (cond (not (eqb (w % 256) 0) && low (w % 256 - 1)) w 512)) (ne-eqb w 0 (λ z. not-suc-le-zero {n = 0} (omega (arith, z))))
+    let w = turnWord owner elided tried in
+    let names = word-owner owner elided tried small in
+    let named : w % 256 - 1 ≡ owner = omega (arith, names) in
+    ap (λ (b : Bool). cond b 0 (cond (not (eqb (w % 256) 0) && low (w % 256 - 1)) w 512)) (ne-eqb w 0 (λ z. not-suc-le-zero {n = 0} (omega (arith, z, names))))
     ∙ ap (λ (b : Bool). cond b w 512) (and-fails-right (not (eqb (w % 256) 0)) (low (w % 256 - 1)) (ap low named ∙ high))
 
 -- and 0 where no turn starts

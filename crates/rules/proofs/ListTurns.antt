@@ -33,19 +33,13 @@ use Rattle.rules.specs.RoundRobin.{tickTries}
 use Rattle.rules.specs.Guarantees.{ticksIn, atTick, firstTick, Started, Waits, owns}
 use Rattle.rules.proofs.Traversal.{first-home, first-least, least-takes, first-class, home-takes, ascends}
 use Rattle.rules.proofs.Queue.{dequeue-else, dequeue-apart}
-use Rattle.rules.proofs.Step.{outcome}
+use Rattle.rules.proofs.Step.{word-owner, outcome}
 use Rattle.rules.proofs.TurnsKept.{start-within}
 use Rattle.rules.proofs.Range.{ranged}
 use Rattle.rules.proofs.CallsKept.{fresh-fits}
 use Rattle.rules.proofs.SingleCalls.{tick-answered}
 use Rattle.rules.proofs.Calls.{after-in-range}
 use Rattle.rules.proofs.ListTicks.{Grown, grown-none, grown-more, Made, made}
-
--- a turn number in the log names the owner
-word-owner : (o : ℕ) (b : Bool) (tried : ℕ) → o < 16 → turnWord o b tried % 256 ≡ o + 1
-unfolding turnWord
-word-owner o true tried l = omega (arith, l)
-word-owner o false tried l = omega (arith, l)
 
 -- the wires leave the queue of a class that does not own the turn
 driven-beside : (b : Bus) (c : ℕ) → ((b .owner ≡ c) → ⊥) → Grown (b .queues) (drive b .queues) c

@@ -5,7 +5,8 @@ use mathlib.Core.Path.{_≡_, sym, ap, subst, _∙_}
 use mathlib.Core.Logic.{⊎-elim}
 use mathlib.Core.Bool.{Bool, true, cond, false}
 use mathlib.Core.List.{List}
-use Prim.Native.Nat.{ℕ, _<_}
+use Prim.Native.Nat.{ℕ, _+_, _%_, _<_}
+use native.Mathlib.Omega.{arith}
 use borrow.Author.Tests.{eqb-true}
 use lib.Dec.{eqb}
 use Rattle.policy.specs.Policy.{inRange}
@@ -32,6 +33,12 @@ module _ (p : Policy) (given : inRange p ≡ true) where
       (λ e. subst small (sym (on-true (turnStarts p t) _ _ e)) (start-owner (turnNumber p t) lengths (turns .left) (turns .pointers)))
       (λ e. subst small (sym (on-false (turnStarts p t) _ _ e)) l)
       (either (turnStarts p t))
+
+-- a turn number in the log names the owner
+pub word-owner : (o : ℕ) (b : Bool) (tried : ℕ) → o < 16 → turnWord o b tried % 256 ≡ o + 1
+unfolding turnWord
+word-owner o true tried l = omega (arith, l)
+word-owner o false tried l = omega (arith, l)
 
 -- how many classes the traversal tries, if a turn starts
 abbrev pub triedAt : Policy → ℕ → List ℕ → Turns → ℕ

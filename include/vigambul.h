@@ -30,7 +30,7 @@
 
 /* Of a turn number, the fourth of a line: 1 if a turn starts there; then its owner, 1 if the owner's dead time is dropped, and how many classes the walk tried, the owner counted, in
  * bits 16 to 20: 1 to 16, and never above vigambul_walk_bound of the walk's first class. (Of a turn number of 0 there is no owner and no walk. In an extract 512 is a turn whose owner
- * the class may not see: VIGAMBUL_TURN_HIDDEN. It does not say how many classes were tried: VIGAMBUL_TURN_TRIED of it is 0.)
+ * the class, or the set of classes, may not see: VIGAMBUL_TURN_HIDDEN. It does not say how many classes were tried: VIGAMBUL_TURN_TRIED of it is 0.)
  */
 #define VIGAMBUL_TURN_HIDDEN UINT32_C(512)
 #define VIGAMBUL_TURN_STARTS(turn) ((uint32_t)((uint32_t)(turn) != UINT32_C(0)))
@@ -49,7 +49,7 @@ enum vigambul_refusal {
     VIGAMBUL_REFUSED_LEAST = 6,       /* no least class */
     VIGAMBUL_REFUSED_TURNS = 7,       /* E or the sum of minimums out of range */
     VIGAMBUL_REFUSED_TIMING = 8,      /* a timing byte out of range; the eleventh, the rank gap, is 1 to the dead time */
-    VIGAMBUL_REFUSED_CLASS = 9,       /* class not below n */
+    VIGAMBUL_REFUSED_CLASS = 9,       /* class not below n, or a set of classes with such a class */
     VIGAMBUL_REFUSED_BANK_KIND = 10,  /* bank above 7, kind above 1, or a rank other than 0 with ten timing bytes */
     VIGAMBUL_REFUSED_QUEUE = 11,      /* 8 requests of that class wait */
     VIGAMBUL_REFUSED_LAST_TICK = 12,  /* a tick after 16,777,215 ticks */
@@ -86,6 +86,19 @@ size_t vigambul_extract(const uint8_t *policy, size_t policy_len, uint32_t class
                         const uint32_t *trace, size_t trace_len,
                         const uint32_t *log, size_t log_len,
                         uint32_t *out, size_t out_len, uint32_t *status);
+
+/* The same for a set of classes, such as tenants who compare notes: writes what may be seen of a log by at least one of them. Bit c of classes is set if class c is in the
+ * set. A command, an answer or an offer is kept if its class may flow to at least one class of the set, and an owner's turn number so too. The empty set, 0, keeps the
+ * ticks, with no commands or answers and with 512 at each turn start. A set of one class gives what vigambul_extract gives for it.
+ *
+ * Answers as vigambul_extract does, and puts into status 0; or 1 to 8, the number that refuses the file; or 9, if classes has a bit at n or above, 16 to 31 counted; or 17,
+ * if log_len is not 4 times trace_len; or 16, if out_len is less than what is kept. Where status is anything but 0, the count is 0 and nothing is written. Numbers of out
+ * past the count stay as they are. 4 times trace_len is always enough for out.
+ */
+size_t vigambul_extract_set(const uint8_t *policy, size_t policy_len, uint32_t classes,
+                            const uint32_t *trace, size_t trace_len,
+                            const uint32_t *log, size_t log_len,
+                            uint32_t *out, size_t out_len, uint32_t *status);
 
 /* Reads the policy file's bytes, and answers how many classes a walk that starts at class_ tries at most, class_ counted: the number of classes on the longest rising chain from it,
  * 1 to 16. The greatest of these is that of the least class: so many classes hardware must be able to try in one cycle.

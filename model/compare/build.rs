@@ -1,4 +1,5 @@
-//! Links the static library with `vigambul_run`, `vigambul_extract` and `vigambul_walk_bound`.
+//! Links the static library with `vigambul_run`, `vigambul_extract`, `vigambul_extract_set` and
+//! `vigambul_walk_bound`.
 
 use std::path::{Path, PathBuf};
 use std::process::exit;

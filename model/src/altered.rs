@@ -3,7 +3,6 @@
 //! one of them, in one place. They exist so that tests can show that each
 //! comparison is made and that it alone tells the difference.
 
-use crate::extract::is_kept;
 use crate::leaks::{Outcome, Performed};
 use crate::pairs::Pair;
 use crate::refusal::Refusal;
@@ -41,6 +40,8 @@ pub enum Altered {
     ShortRoomWritten,
     /// An extract with just enough room was refused.
     JustRoomRefused,
+    /// An extract for a set with a missing class was not refused.
+    RefusedSetTaken,
     /// A request less waits in a class that may flow to L.
     QueueLength,
     /// The oldest and the newest of such a class's requests are swapped.
@@ -123,7 +124,7 @@ impl Altered {
             let line = &done.log[LINE * place..][..LINE];
             let tick = Word::of(list[place]) == Word::Tick;
             match self {
-                Altered::Status => is_kept(&pair.policy, pair.class, list[place]),
+                Altered::Status => pair.seen.keeps(list[place]),
                 Altered::Command => tick && seen_word(line[1]),
                 Altered::Answer => tick && seen_word(line[2]),
                 Altered::SeenTurn | Altered::SeenWalk => line[3] != 0 && sees_owner(pair, line[3]),
@@ -196,6 +197,10 @@ impl Altered {
                 outcome.just_room.count = 0;
                 outcome.just_room.refusal = Some(Refusal::ExtractTooShort);
             }
+            (Altered::RefusedSetTaken, _) => match outcome.refused.as_mut() {
+                Some(refused) => refused.refusal = None,
+                None => return false,
+            },
             (Altered::ShortRoomTaken, Some(short)) => {
                 short.count = short.out.len();
                 short.refusal = None;

@@ -3,6 +3,7 @@
 
 use std::collections::BTreeMap;
 
+use crate::class_set::{kinds, kinds_of_offers, OFFER_KINDS, REFUSED_KINDS, TAKEN_KINDS};
 use crate::dead_time::{lookahead, offset_allows, turns_left_before_next, Lookahead, TurnsLeft};
 use crate::generate::{Folder, DAMAGES};
 use crate::planted::Planted;
@@ -21,7 +22,7 @@ use crate::walk::longest_chain;
 /// 15 to 17 need calls that the program does not make.
 const REFUSALS: [u32; 12] = [1, 2, 3, 4, 5, 6, 7, 8, 9, 10, 11, 14];
 
-/// Each kind of damage must be met so often: once may be by luck.
+/// Each kind of damage, of set and of offer by sets must be met so often: once may be by luck.
 const FAIR: u64 = 5;
 
 /// Everything else that is counted.
@@ -168,12 +169,16 @@ impl Coverage {
             .chain(neighbours().map(|(seen, hidden)| neighbours_name(seen, hidden)))
             .chain(CASES.iter().map(|name| name.to_string()))
             .map(|name| (name, Count { met: 0, needed: 1 }));
-        let damages = DAMAGES.iter().map(|damage| {
-            let needed = FAIR;
-            (damage_name(damage.name), Count { met: 0, needed })
-        });
+        let of_sets = TAKEN_KINDS.into_iter().chain(REFUSED_KINDS);
+        let of_sets = of_sets.chain(OFFER_KINDS).map(str::to_string);
+        let fairly_often = (DAMAGES.iter().map(|damage| damage_name(damage.name)))
+            .chain(of_sets)
+            .map(|name| {
+                let needed = FAIR;
+                (name, Count { met: 0, needed })
+            });
         Coverage {
-            counts: once.chain(damages).collect(),
+            counts: once.chain(fairly_often).collect(),
         }
     }
 
@@ -218,6 +223,7 @@ impl Coverage {
         let trace = read_trace(&folder.trace);
         self.met(&left_over_name(trace.left_over));
         self.add_neighbours(&policy, &trace.numbers);
+        self.add_sets(&policy, folder, &trace.numbers);
         let (mut state, _) = state::fresh(&policy);
         let mut taken = vec![Taken::default(); policy.class_count()];
         for &number in &trace.numbers {
@@ -299,6 +305,20 @@ impl Coverage {
             let told =
                 others.any(|class| policy.flows(seen, class) && !policy.flows(hidden, class));
             self.met_if(told && offered(hidden), &neighbours_name(seen, hidden));
+        }
+    }
+
+    /// Counts the sets of classes that extracts are asked for, and what the members see.
+    fn add_sets(&mut self, policy: &Policy, folder: &Folder, trace: &[u32]) {
+        for &classes in &folder.sets {
+            for kind in kinds(policy, classes) {
+                self.met(kind);
+            }
+            if classes.is_of(policy) {
+                for kind in kinds_of_offers(policy, classes, trace) {
+                    self.met(kind);
+                }
+            }
         }
     }
 

@@ -1,17 +1,19 @@
 //! Policies and traces made from a seed: the same seed gives the same bytes. With them go the
 //! layout of a policy file and the rows of two plain orders.
 
+use crate::class_set::{ClassSet, LAST_BIT};
 use crate::masks::{below_mask, class_mask};
 use crate::policy::{self, Policy, LONGEST_EPOCH, MOST_CLASSES, TIMING_LENGTH};
 use crate::random::Random;
 use crate::state::{ranks, Request, BANKS, QUEUE_LIMIT, RANKS};
-use crate::trace::{offer_word, STRAY_BITS};
+use crate::trace::{offer_word, COLUMN_BIT, ELIDED, OFFER_BIT, STRAY_BITS, TRIED_SHIFT};
 
-/// The two files that the program reads.
+/// The two files that the program reads, and sets of classes to ask extracts for.
 #[derive(Clone, Debug, PartialEq, Eq)]
 pub struct Folder {
     pub policy: Vec<u8>,
     pub trace: Vec<u8>,
+    pub sets: Vec<ClassSet>,
     /// The name in [`DAMAGES`] of what was done to the policy, if it was.
     pub damage: Option<&'static str>,
 }
@@ -28,11 +30,12 @@ pub fn folder(seed: u64) -> Folder {
         None if long_walks => long_walks_fields(random).encode(),
         None => policy_file(random),
     };
-    let trace = match policy::read(&policy) {
-        (policy, None) if long_walks => long_walks_trace(random, &policy),
-        (policy, None) => trace_numbers(random, &policy),
+    let (read, refusal) = policy::read(&policy);
+    let trace = match refusal {
+        None if long_walks => long_walks_trace(random, &read),
+        None => trace_numbers(random, &read),
         // The program does not look at it; it must be there all the same.
-        (_, Some(_)) => (0..random.below(8)).map(|_| random.next() as u32).collect(),
+        Some(_) => (0..random.below(8)).map(|_| random.next() as u32).collect(),
     };
     let mut bytes: Vec<u8> = trace
         .iter()
@@ -43,6 +46,8 @@ pub fn folder(seed: u64) -> Folder {
     Folder {
         policy,
         trace: bytes,
+        // Drawn aside: the files are what they were before W-211.
+        sets: some_sets(&mut random.aside(), &read),
         damage: damage.map(|damage| damage.name),
     }
 }
@@ -300,6 +305,68 @@ fn edge_or_between(random: &mut Random, first: usize, last: usize) -> usize {
         1 => last,
         _ => random.between(first, last),
     }
+}
+
+// ---------------------------------------------------------------------------
+// Sets of classes.
+
+/// Some sets of classes for a policy, among them two that 9 refuses. For a file that is refused
+/// they are any.
+fn some_sets(random: &mut Random, policy: &Policy) -> Vec<ClassSet> {
+    let mut sets: Vec<ClassSet> = (0..4).map(|_| any_set(random, policy)).collect();
+    let refused = [0, 1].map(|place| with_missing_class(random, policy, sets[place]));
+    sets.extend(refused);
+    sets
+}
+
+/// A set of classes that a policy has: often none, one, two of each kind, or all of them.
+pub fn any_set(random: &mut Random, policy: &Policy) -> ClassSet {
+    let n = policy.class_count();
+    let is_lower = |lower: usize, upper: usize| policy.strictly_below(lower, upper);
+    let pairs = |fits: &dyn Fn(usize, usize) -> bool| -> Vec<ClassSet> {
+        let firsts = 0..n;
+        let pairs = firsts.flat_map(|first| (first + 1..n).map(move |second| (first, second)));
+        let fitting = pairs.filter(|&(first, second)| fits(first, second));
+        let set = |(first, second)| ClassSet::of(first) | ClassSet::of(second);
+        fitting.map(set).collect()
+    };
+    let some = match random.below(12) {
+        0 => vec![ClassSet::EMPTY],
+        1 => (0..n).map(ClassSet::of).collect(),
+        2..=4 => pairs(&|a, b| !is_lower(a, b) && !is_lower(b, a)),
+        5 => pairs(&|a, b| is_lower(a, b) || is_lower(b, a)),
+        6 => vec![ClassSet::below(n)],
+        _ => Vec::new(),
+    };
+    if !some.is_empty() {
+        return *random.pick(&some);
+    }
+    // One class, and each other by chance: few of them, half of them or most of them.
+    let one = random.below(n);
+    let chance = *random.pick(&[20, 50, 80]);
+    let members = (0..n).filter(|&class| class == one || random.percent(chance));
+    members.map(ClassSet::of).collect()
+}
+
+/// A set with one class more that a policy does not have, and at times several. Lists that agree
+/// for the set agree for this one too: no class may flow to what does not exist.
+pub fn with_missing_class(random: &mut Random, policy: &Policy, classes: ClassSet) -> ClassSet {
+    let n = policy.class_count();
+    let missing = match random.below(6) {
+        0 | 1 => n,
+        2 => MOST_CLASSES,
+        3 => LAST_BIT,
+        _ => random.between(n, LAST_BIT),
+    };
+    let all_missing = u32::MAX << n;
+    let more = match random.below(8) {
+        0 => random.next() as u32 & all_missing,
+        1 => all_missing,
+        // Bits that are lost in 16.
+        2 => u32::MAX << MOST_CLASSES,
+        _ => 0,
+    };
+    classes | ClassSet::of(missing) | ClassSet(more)
 }
 
 // ---------------------------------------------------------------------------
@@ -1100,5 +1167,75 @@ pub fn malformed_word(random: &mut Random) -> u32 {
             sound_offer(random, class, 8) | stray
         }
         _ => any >> 1 | 1,
+    }
+}
+
+// ---------------------------------------------------------------------------
+// Logs of any numbers.
+
+/// A log of a trace that no run wrote. Mostly each number is something like one
+/// in its place, so that all that an extract asks of it has many answers.
+pub fn any_log(random: &mut Random, trace: &[u32]) -> Vec<u32> {
+    let line = |_: &u32| {
+        [
+            any_status(random),
+            any_word(random),
+            any_word(random),
+            any_turn(random),
+        ]
+    };
+    trace.iter().flat_map(line).collect()
+}
+
+fn any_status(random: &mut Random) -> u32 {
+    match random.below(4) {
+        0 => 0,
+        1 => random.next() as u32,
+        _ => random.below(20) as u32,
+    }
+}
+
+/// A number in the place of a command or an answer.
+fn any_word(random: &mut Random) -> u32 {
+    let any = random.next() as u32;
+    let class = (random.below(32) as u32) << 24;
+    let low_class = (random.below(17) as u32) << 24;
+    match random.below(10) {
+        0 => 0,
+        1 => any,
+        2 => 1 << random.below(32),
+        3 => [1, u32::MAX, OFFER_BIT, COLUMN_BIT, 1 << 29][random.below(5)],
+        // A class, with any bits around it.
+        4 | 5 => any & !(0x1F << 24) | low_class,
+        // An offer's word or a column command, of any class.
+        6 => OFFER_BIT | class | any & 0x00FF_FFFF,
+        7 => OFFER_BIT | COLUMN_BIT | class | any & 0x00D7_FFFF,
+        // The same of a class that likely exists.
+        8 => OFFER_BIT | low_class | any & 0x00D7_FFFF,
+        // No bit but the class.
+        _ => class,
+    }
+}
+
+/// A number in the place of a turn.
+fn any_turn(random: &mut Random) -> u32 {
+    let any = random.next() as u32;
+    let owner = random.below(17) as u32;
+    let walk = (1 + random.below(31) as u32) << TRIED_SHIFT;
+    match random.below(10) {
+        0 => 0,
+        1 => any,
+        // What a run writes, of classes that exist and that do not; and without a walk.
+        2 => 1 + owner,
+        3 => 1 + owner + walk,
+        4 => 1 + owner + ELIDED,
+        5 => 1 + owner + ELIDED + walk,
+        // A low byte of 0, or any low byte.
+        6 => [256, 512, 768, 65_536, 1 << 31, walk, any << 8][random.below(7)],
+        7 => random.below(256) as u32,
+        // An owner, with any bits above the low byte.
+        8 => any << 8 | (1 + owner),
+        // Owners that are others in fewer bits.
+        _ => (32 << random.below(3)) + 1 + owner,
     }
 }

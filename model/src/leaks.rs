@@ -1,8 +1,9 @@
 //! "Two lists side by side": a search for pairs of lists that agree for a class
-//! L and yet differ in what L sees. The field's word for demand 3 is
-//! noninterference.
+//! L, or for W-211's set of classes, and yet differ in what is seen. The field's word for
+//! demand 3 is noninterference.
 
 use crate::altered::Altered;
+use crate::class_set::ClassSet;
 use crate::met::Met;
 use crate::pairs::pair_from_used_up;
 use crate::planted::Planted;
@@ -13,7 +14,7 @@ use crate::state::State;
 use crate::tick::{offer_planted, tick_planted};
 use crate::trace::{run_planted, tick_line, Word, LINE};
 
-pub use crate::pairs::{pair, pair_planted, purge, Cut, Pair};
+pub use crate::pairs::{pair, pair_of_set, pair_of_set_planted, pair_planted, purge, Cut, Pair};
 
 /// The number of pairs in which the model as it is must show no leak, nor the
 /// library.
@@ -23,12 +24,16 @@ pub const ORDINARY_PAIRS: u64 = 50_000;
 /// nothing else shows one.
 pub const PAIRS_ENOUGH: u64 = ORDINARY_PAIRS / 10;
 
-/// A leak: a pair of lists that agree for L, and what differs.
+/// The same of pairs for sets of classes. What a tick and an offer may leak, the others show.
+pub const ORDINARY_PAIRS_OF_SETS: u64 = 20_000;
+pub const PAIRS_OF_SETS_ENOUGH: u64 = ORDINARY_PAIRS_OF_SETS / 10;
+
+/// A leak: a pair of lists that agree for a set of classes, and what differs.
 #[derive(Clone, Debug, PartialEq, Eq)]
 pub struct Leak {
-    /// The seed of the pair: [`pair_planted`] makes it again.
+    /// The seed of the pair: [`pair_planted`] or [`pair_of_set_planted`] makes it again.
     pub seed: u64,
-    pub class: usize,
+    pub classes: ClassSet,
     /// The comparison that told.
     pub check: Check,
     pub what: String,
@@ -47,8 +52,8 @@ impl Search {
         let found = match &self.leak {
             None => "no leak found\n".to_string(),
             Some(leak) => format!(
-                "LEAK: seed {}, class {}: {}\n",
-                leak.seed, leak.class, leak.what
+                "LEAK: seed {}, classes {}: {}\n",
+                leak.seed, leak.classes, leak.what
             ),
         };
         self.met.report() + &found
@@ -62,49 +67,71 @@ pub fn search(count: u64) -> Search {
 
 /// The same search with a wrong rule in place. For tests.
 pub fn search_planted(count: u64, planted: Planted) -> Search {
-    search_pairs(count, planted, pair_planted)
+    search_pairs(count, planted, pair_planted, Met::default())
 }
 
-/// The same from states in which turns are used up and counts are any. For tests.
+/// The same over lists that agree for sets of classes.
+pub fn search_sets(count: u64) -> Search {
+    search_sets_planted(count, Planted::Nothing)
+}
+
+/// That search with a wrong rule in place. For tests.
+pub fn search_sets_planted(count: u64, planted: Planted) -> Search {
+    search_pairs(count, planted, pair_of_set_planted, Met::of_sets())
+}
+
+/// The search for one class from states in which turns are used up and counts are any. For
+/// tests.
 pub fn search_used_up(count: u64, planted: Planted) -> Search {
-    search_pairs(count, planted, pair_from_used_up)
+    search_pairs(count, planted, pair_from_used_up, Met::default())
 }
 
-fn search_pairs(count: u64, planted: Planted, pair: fn(u64, Planted) -> Pair) -> Search {
-    let mut search = Search::default();
-    for seed in 0..count {
-        let pair = pair(seed, planted);
-        let done = [0, 1].map(|side| perform(&pair, side, planted));
-        let outcomes = outcomes(&pair, &done, planted);
-        let extract = &outcomes[0].extract;
-        let logs = [&done[0].log, &done[1].log].map(Vec::as_slice);
-        let numbers = &extract.out[..extract.count];
-        search.met.add_pair(&pair, logs, numbers);
-        if let Some((check, what)) = difference(&pair, &done, &outcomes) {
-            search.leak = Some(Leak {
-                seed,
-                class: pair.class,
-                check,
-                what,
-            });
-            break;
-        }
-    }
+/// Every leak that this search would find if it went on, with a wrong rule in place. For tests.
+pub fn all_leaks_to_sets(count: u64, planted: Planted) -> impl Iterator<Item = Leak> {
+    let mut met = Met::of_sets();
+    (0..count).filter_map(move |seed| leak_of(seed, planted, pair_of_set_planted, &mut met))
+}
+
+fn search_pairs(count: u64, planted: Planted, pair: fn(u64, Planted) -> Pair, met: Met) -> Search {
+    let mut search = Search { met, leak: None };
+    search.leak = (0..count).find_map(|seed| leak_of(seed, planted, pair, &mut search.met));
     search
+}
+
+/// The leak of a seed's pair, if it shows one; what the pair met is counted.
+fn leak_of(
+    seed: u64,
+    planted: Planted,
+    pair: fn(u64, Planted) -> Pair,
+    met: &mut Met,
+) -> Option<Leak> {
+    let pair = pair(seed, planted);
+    let done = [0, 1].map(|side| perform(&pair, side, planted));
+    let outcomes = outcomes(&pair, &done, planted);
+    let extract = &outcomes[0].extract;
+    let logs = [&done[0].log, &done[1].log].map(Vec::as_slice);
+    let numbers = &extract.out[..extract.count];
+    met.add_pair(&pair, logs, numbers);
+    let (check, what) = difference(&pair, &done, &outcomes)?;
+    Some(Leak {
+        seed,
+        classes: pair.classes,
+        check,
+        what,
+    })
 }
 
 /// Which comparison tells the changed outcome of one of a pair's lists from the
 /// other's, if any does; nothing where the pair has nothing to be so changed.
 /// For tests.
-pub fn check_altered(seed: u64, altered: Altered) -> Option<Option<Check>> {
-    let pair = pair(seed);
-    let mut done = [0, 1].map(|side| perform(&pair, side, Planted::Nothing));
+pub fn check_altered(pair: &Pair, seed: u64, altered: Altered) -> Option<Option<Check>> {
+    let mut done = [0, 1].map(|side| perform(pair, side, Planted::Nothing));
     // Either list's outcome must be looked at.
     let (side, place) = ((seed % 2) as usize, seed / 2);
-    let in_performed = altered.change_performed(&pair, side, place, &mut done[side]);
-    let mut outcomes = outcomes(&pair, &done, Planted::Nothing);
+    let in_performed = altered.change_performed(pair, side, place, &mut done[side]);
+    let mut outcomes = outcomes(pair, &done, Planted::Nothing);
     let in_outcome = altered.change_outcome(&mut outcomes[side]);
-    let fired = difference(&pair, &done, &outcomes).map(|(check, _)| check);
+    let fired = difference(pair, &done, &outcomes).map(|(check, _)| check);
     (in_performed || in_outcome).then_some(fired)
 }
 
@@ -131,19 +158,22 @@ pub(crate) struct Outcome {
     pub(crate) just_room: Extract,
     /// With one number less, if there is one less.
     pub(crate) short_room: Option<Extract>,
+    /// For the set that 9 refuses, if the pair has one.
+    pub(crate) refused: Option<Extract>,
 }
 
 /// The extracts of two performed lists.
 fn outcomes(pair: &Pair, done: &[Performed; 2], planted: Planted) -> [Outcome; 2] {
-    let extract = |side: usize, room: usize| {
+    let extract_for = |classes: ClassSet, side: usize, room: usize| {
         let mut out = vec![UNWRITTEN; room];
-        let outcome = pair.extract(side, &done[side].log, &mut out, planted);
+        let outcome = pair.extract(classes, side, &done[side].log, &mut out, planted);
         Extract {
             count: outcome.unwrap_or(0),
             refusal: outcome.err(),
             out,
         }
     };
+    let extract = |side: usize, room: usize| extract_for(pair.classes, side, room);
     let plenty = done[0].log.len().max(done[1].log.len()) + 1;
     let extracts = [0, 1].map(|side| extract(side, plenty));
     let just = extracts[0].count;
@@ -154,6 +184,7 @@ fn outcomes(pair: &Pair, done: &[Performed; 2], planted: Planted) -> [Outcome; 2
             extract: with_plenty,
             just_room: extract(side, just),
             short_room: just.checked_sub(1).map(|short| extract(side, short)),
+            refused: pair.refused.map(|set| extract_for(set, side, just)),
         }
     })
 }
@@ -176,6 +207,8 @@ pub enum Check {
     PastTheCount,
     /// An extract with just enough room, or with one number less.
     Room,
+    /// An extract for a set with a class that does not exist.
+    RefusedSet,
     /// The waiting requests, turns left, mark and count of a class that may flow to L.
     Queue,
     TurnsLeft,
@@ -196,7 +229,7 @@ impl Check {
     }
 }
 
-/// What differs for L between two lists that agree for it.
+/// What differs for L, or for a set of classes, between two lists that agree for it.
 fn difference(
     pair: &Pair,
     done: &[Performed; 2],
@@ -205,6 +238,7 @@ fn difference(
     difference_of_runs(done)
         .or_else(|| difference_of_extracts(outcomes))
         .or_else(|| difference_of_rooms(outcomes))
+        .or_else(|| difference_of_refused_sets(outcomes))
         .or_else(|| difference_of_states(pair, done))
 }
 
@@ -250,9 +284,22 @@ fn difference_of_rooms([left, right]: &[Outcome; 2]) -> Option<(Check, String)> 
     None
 }
 
+/// W-211: "A set with a class not below n is refused with 9." It is so whatever the list, and
+/// nothing is written.
+fn difference_of_refused_sets([left, right]: &[Outcome; 2]) -> Option<(Check, String)> {
+    let (left, right) = (left.refused.as_ref()?, right.refused.as_ref()?);
+    let refused = left.refusal.is_some() && left.count == 0;
+    let kept = left.out.iter().all(|&number| number == UNWRITTEN);
+    (!refused || !kept || left != right).then(|| {
+        let what = "of a set with a missing class the extracts differ or are taken";
+        (Check::RefusedSet, what.to_string())
+    })
+}
+
 /// "For each class that may flow to L, equal in the states after the two lists
 /// are its waiting requests, oldest first, its turns left and its mark". W-203: "and so
-/// do the counts of each class that may flow to it."
+/// do the counts of each class that may flow to it." W-211: "and equal stored parts of the
+/// classes kept."
 fn difference_of_states(pair: &Pair, [left, right]: &[Performed; 2]) -> Option<(Check, String)> {
     for class in (0..pair.policy.class_count()).filter(|&class| pair.sees(class)) {
         let (left, right) = (&left.state.classes[class], &right.state.classes[class]);

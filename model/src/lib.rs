@@ -13,6 +13,7 @@
 //! | Dead time                          | [`dead_time`]           |
 //! | Trace and log                      | [`trace`]               |
 //! | The extract                        | [`extract`]             |
+//! | Sets of classes of W-211           | [`class_set`]           |
 //! | Two lists side by side             | [`leaks`], [`pairs`]    |
 //! | Promises of document 02            | [`promises`]            |
 //! | The program                        | [`program`]             |
@@ -31,6 +32,7 @@
 #![forbid(unsafe_code)]
 
 pub mod altered;
+pub mod class_set;
 pub mod coverage;
 pub mod dead_time;
 pub mod extract;

@@ -6,6 +6,7 @@ use std::io::{self, BufWriter, ErrorKind, Write};
 use std::path::{Path, PathBuf};
 use std::process::ExitCode;
 
+use vigambul_model::class_set::ClassSet;
 use vigambul_model::{generate, leaks, program};
 
 const USAGE: &str = "\
@@ -13,10 +14,12 @@ A model of the lattice priority controller, cycle by cycle.
 
 usage:
   vigambul-model run DIR          print the log of DIR/trace.bin under DIR/policy.bin
-  vigambul-model extract L DIR    print the extract of that log for class L
+  vigambul-model extract SET DIR  print the extract of that log for a class or a set of classes:
+                                  a class (2), several with commas between (1,2), or none
   vigambul-model generate SEED DIR
                                   write a policy.bin and a trace.bin made from SEED into DIR
-  vigambul-model leaks COUNT      search COUNT pairs of lists for leaks
+  vigambul-model leaks COUNT      search COUNT pairs of lists for leaks to a class, and as many
+                                  for leaks to a set of classes
   vigambul-model --help           print this text
 
 The exit status is 0 if the command did its work (a refusal that is printed is
@@ -28,7 +31,7 @@ the arguments are wrong or DIR or a file of it that is to be read is missing.
 enum Command {
     Help,
     Run { dir: PathBuf },
-    Extract { class: usize, dir: PathBuf },
+    Extract { classes: ClassSet, dir: PathBuf },
     Generate { seed: u64, dir: PathBuf },
     Leaks { count: u64 },
 }
@@ -79,8 +82,12 @@ fn parse(arguments: &[OsString]) -> Result<Command, String> {
     match words.as_slice() {
         ["--help" | "-h"] => Ok(Command::Help),
         ["run", _] => Ok(Command::Run { dir: dir() }),
-        ["extract", class, _] => Ok(Command::Extract {
-            class: number("the class L", class)?,
+        ["extract", classes, _] => Ok(Command::Extract {
+            classes: value(
+                "SET",
+                "a class, classes as in 1,2 or the word none",
+                classes,
+            )?,
             dir: dir(),
         }),
         ["generate", seed, _] => Ok(Command::Generate {
@@ -99,9 +106,13 @@ fn parse(arguments: &[OsString]) -> Result<Command, String> {
     }
 }
 
-fn number<T: std::str::FromStr>(what: &str, text: &str) -> Result<T, String> {
+fn number(what: &str, text: &str) -> Result<u64, String> {
+    value(what, "a whole number", text)
+}
+
+fn value<T: std::str::FromStr>(what: &str, is: &str, text: &str) -> Result<T, String> {
     text.parse()
-        .map_err(|_| format!("{what} must be a whole number, not {text}"))
+        .map_err(|_| format!("{what} must be {is}, not {text}"))
 }
 
 fn perform(command: Command) -> Result<ExitCode, Trouble> {
@@ -111,9 +122,9 @@ fn perform(command: Command) -> Result<ExitCode, Trouble> {
             let (policy, trace) = read_folder(&dir)?;
             Ok(print(&program::output(&policy, &trace))?)
         }
-        Command::Extract { class, dir } => {
+        Command::Extract { classes, dir } => {
             let (policy, trace) = read_folder(&dir)?;
-            Ok(print(&program::extract_output(class, &policy, &trace))?)
+            Ok(print(&program::extract_output(classes, &policy, &trace))?)
         }
         Command::Generate { seed, dir } => {
             let folder = generate::folder(seed);
@@ -124,11 +135,12 @@ fn perform(command: Command) -> Result<ExitCode, Trouble> {
             Ok(ExitCode::SUCCESS)
         }
         Command::Leaks { count } => {
-            let search = leaks::search(count);
-            print(search.report().as_bytes())?;
-            Ok(match search.leak {
-                None => ExitCode::SUCCESS,
-                Some(_) => ExitCode::FAILURE,
+            let searches = [leaks::search(count), leaks::search_sets(count)];
+            let [of_classes, of_sets] = searches.each_ref().map(leaks::Search::report);
+            print(format!("{of_classes}\nsets of classes:\n{of_sets}").as_bytes())?;
+            Ok(match searches.iter().all(|search| search.leak.is_none()) {
+                true => ExitCode::SUCCESS,
+                false => ExitCode::FAILURE,
             })
         }
     }

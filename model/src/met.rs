@@ -3,6 +3,7 @@
 
 use std::collections::BTreeMap;
 
+use crate::class_set::{kinds, kinds_of_offers, OFFER_KINDS, REFUSED_KINDS, TAKEN_KINDS};
 use crate::extract::HIDDEN_TURN;
 use crate::pairs::{Cut, Pair};
 use crate::policy::MOST_CLASSES;
@@ -107,20 +108,40 @@ const COUNTED: [Counted; 60] = [
     ),
 ];
 
+/// W-211: what is counted besides in pairs for sets of classes.
+fn counted_of_sets() -> impl Iterator<Item = Counted> {
+    let sets = TAKEN_KINDS.into_iter().chain(REFUSED_KINDS);
+    let sets = sets.map(|name| -> Counted { (name, |pairs| pairs / 100) });
+    sets.chain(OFFER_KINDS.map(|name| -> Counted { (name, |pairs| pairs) }))
+}
+
 /// How much a search met of all that is counted.
 #[derive(Clone, Debug, PartialEq, Eq)]
 pub struct Met {
     counts: BTreeMap<&'static str, u64>,
+    counted: Vec<Counted>,
 }
 
 impl Default for Met {
+    /// Of pairs for one class.
     fn default() -> Met {
-        let counts = COUNTED.iter().map(|&(name, _)| (name, 0)).collect();
-        Met { counts }
+        Met::of(COUNTED.to_vec())
     }
 }
 
 impl Met {
+    /// Of pairs for sets of classes.
+    pub fn of_sets() -> Met {
+        Met::of(COUNTED.into_iter().chain(counted_of_sets()).collect())
+    }
+
+    fn of(counted: Vec<Counted>) -> Met {
+        Met {
+            counts: counted.iter().map(|&(name, _)| (name, 0)).collect(),
+            counted,
+        }
+    }
+
     /// The pairs that were compared, one with a leak counted.
     pub fn pairs(&self) -> u64 {
         self.counts["pairs compared"]
@@ -129,14 +150,14 @@ impl Met {
     /// What was met less than so many pairs must meet it.
     pub fn too_little(&self) -> Vec<&'static str> {
         let enough = |&(name, least): &Counted| self.counts[name] >= least(self.pairs());
-        let few = COUNTED.iter().filter(|counted| !enough(counted));
+        let few = self.counted.iter().filter(|counted| !enough(counted));
         few.map(|&(name, _)| name).collect()
     }
 
     /// Each count in a line.
     pub fn report(&self) -> String {
         let line = |&(name, _): &Counted| format!("{name}: {}\n", self.counts[name]);
-        COUNTED.iter().map(line).collect()
+        self.counted.iter().map(line).collect()
     }
 
     /// Counts what is in the list of names above, and nothing else.
@@ -155,6 +176,7 @@ impl Met {
     /// wrote.
     pub fn add_pair(&mut self, pair: &Pair, logs: [&[u32]; 2], extract: &[u32]) {
         self.add("pairs compared", 1);
+        self.add_sets(pair);
         self.add_policy(pair);
         self.add_lists(pair);
         let [left, right] = [0, 1].map(|side| pair.ticks_of(side, logs[side]));
@@ -169,6 +191,22 @@ impl Met {
             self.add_passes(pair, side, log);
         }
         self.add_seen(extract);
+    }
+
+    /// Counts a pair for a set by its kinds, and by what its members see of the first list.
+    fn add_sets(&mut self, pair: &Pair) {
+        let Some(refused) = pair.refused else {
+            return;
+        };
+        let (policy, classes) = (&pair.policy, pair.classes);
+        for set in [classes, refused] {
+            for kind in kinds(policy, set) {
+                self.add(kind, 1);
+            }
+        }
+        for kind in kinds_of_offers(policy, classes, &pair.lists[0]) {
+            self.add(kind, 1);
+        }
     }
 
     /// Counts the activates of requests that were not the oldest of their class, and those

@@ -1,16 +1,18 @@
-//! "Two lists side by side": pairs of lists that agree for a class L, made from
-//! a seed for the search in [`crate::leaks`].
+//! "Two lists side by side": pairs of lists that agree for a class L, or for W-211's
+//! set of classes, made from a seed for the search in [`crate::leaks`].
 //!
 //! Each list is performed while it is made, so that its offers can aim at what
 //! happens in it: at the owner's turn, at the bank that a waiting request needs,
-//! at a queue that is nearly full. Offers of classes that may flow to L stand in
-//! both lists, so they aim by the first list alone; all others are each list's
-//! own and aim by that list.
+//! at a queue that is nearly full. Offers of classes that may flow to L, or to a
+//! member of the set, stand in both lists, so they aim by the first list alone; all
+//! others are each list's own and aim by that list.
 
-use crate::extract::{extract_planted, is_kept};
+use crate::class_set::ClassSet;
+use crate::extract::{extract_set_planted, Seen};
 use crate::generate::{
-    busy_bank_offer, malformed_word, missing_class_word, offer_that_10_refuses, on_rank,
-    quick_kind_offer, sound_offer, sound_rows, sound_timing, with_rank_gap_at_times, PolicyFields,
+    any_set, busy_bank_offer, malformed_word, missing_class_word, offer_that_10_refuses, on_rank,
+    quick_kind_offer, sound_offer, sound_rows, sound_timing, with_missing_class,
+    with_rank_gap_at_times, PolicyFields,
 };
 use crate::planted::Planted;
 use crate::policy::{self, Policy, LONGEST_EPOCH, MOST_CLASSES, TIMING_LENGTH};
@@ -28,13 +30,18 @@ pub enum Cut {
     SingleCalls,
 }
 
-/// Two lists that agree for a class, under one policy.
+/// Two lists that agree for a set of classes, under one policy.
 pub struct Pair {
     /// The policy's file, and the policy itself.
     pub file: Vec<u8>,
     pub policy: Policy,
-    /// L.
-    pub class: usize,
+    /// The set; where the lists agree for a class L, that of L alone.
+    pub classes: ClassSet,
+    /// What the set sees.
+    pub seen: Seen,
+    /// Of lists that agree for a set, the same set with classes that the policy does not have:
+    /// the extracts of both must be refused alike.
+    pub refused: Option<ClassSet>,
     /// The state that both lists go on from.
     pub start: State,
     pub lists: [Vec<u32>; 2],
@@ -42,20 +49,21 @@ pub struct Pair {
 }
 
 impl Pair {
-    /// Whether a class may flow to L.
+    /// Whether a class may flow to L, or to a member of the set.
     pub fn sees(&self, class: usize) -> bool {
-        self.policy.flows(class, self.class)
+        self.seen.has(class)
     }
 
     pub(crate) fn extract(
         &self,
+        classes: ClassSet,
         side: usize,
         log: &[u32],
         out: &mut [u32],
         planted: Planted,
     ) -> Result<usize, Refusal> {
         let list = &self.lists[side];
-        extract_planted(&self.policy, self.class, list, log, out, planted)
+        extract_set_planted(&self.policy, classes, list, log, out, planted)
     }
 
     /// The log lines of ticks. Both lists have the same number of them.
@@ -79,11 +87,12 @@ impl Pair {
 
 /// Document 01: what is left of a list once malformed words and offers whose
 /// class does not exist or may not flow to L are struck out. "Two lists agree if
-/// the same numbers in the same order are left".
-pub fn purge(policy: &Policy, class: usize, list: &[u32]) -> Vec<u32> {
+/// the same numbers in the same order are left". W-211: "equal once malformed words and offers
+/// that may flow to no member are struck".
+pub fn purge(seen: Seen, list: &[u32]) -> Vec<u32> {
     list.iter()
         .copied()
-        .filter(|&number| is_kept(policy, class, number))
+        .filter(|&number| seen.keeps(number))
         .collect()
 }
 
@@ -94,7 +103,7 @@ const MOST_TICKS_OF_SINGLE_CALLS: usize = 240;
 /// Quiet lists are longer than this many ticks.
 const LONG_SINCE: usize = 256;
 
-/// The pair of a seed. Its lists go on from the fresh state.
+/// The pair of a seed, of lists that agree for one class. They go on from the fresh state.
 pub fn pair(seed: u64) -> Pair {
     pair_planted(seed, Planted::Nothing)
 }
@@ -102,15 +111,38 @@ pub fn pair(seed: u64) -> Pair {
 /// The same for a search with a wrong rule in place: where that takes more policies, the
 /// pair's is one of those.
 pub fn pair_planted(seed: u64, planted: Planted) -> Pair {
+    pair_from_fresh(seed, searched_class, planted)
+}
+
+/// The pair of a seed, of lists that agree for a set of classes.
+pub fn pair_of_set(seed: u64) -> Pair {
+    pair_of_set_planted(seed, Planted::Nothing)
+}
+
+/// The same for a search with a wrong rule in place.
+pub fn pair_of_set_planted(seed: u64, planted: Planted) -> Pair {
+    let pair = pair_from_fresh(seed, searched_set, planted);
+    // Any other seed would do; the pair's own would repeat its numbers.
+    let random = &mut Random::new(!seed);
+    Pair {
+        refused: Some(with_missing_class(random, &pair.policy, pair.classes)),
+        ..pair
+    }
+}
+
+/// How the set is chosen that two lists are to agree for.
+type Chosen = fn(&mut Random, &Policy) -> ClassSet;
+
+fn pair_from_fresh(seed: u64, chosen: Chosen, planted: Planted) -> Pair {
     let fresh = |policy: &Policy, _: &mut Random| state::fresh_planted(policy, planted).0;
-    pair_from(seed, fresh, planted)
+    pair_from(seed, chosen, fresh, planted)
 }
 
 /// The same from a state in which turns are used up as no list of calls uses them up:
 /// W-202's plan gives a class at most as many turns as its cap. Demand 3 says nothing of
 /// such states, and yet the rules for turns left must not leak in them.
 pub(crate) fn pair_from_used_up(seed: u64, planted: Planted) -> Pair {
-    pair_from(seed, used_up, planted)
+    pair_from(seed, searched_class, used_up, planted)
 }
 
 /// A state at a turn's start, with any marks, any counts, which are often 15, and any turns
@@ -130,7 +162,12 @@ fn used_up(policy: &Policy, random: &mut Random) -> State {
     state
 }
 
-fn pair_from(seed: u64, start: impl Fn(&Policy, &mut Random) -> State, planted: Planted) -> Pair {
+fn pair_from(
+    seed: u64,
+    chosen: Chosen,
+    start: impl Fn(&Policy, &mut Random) -> State,
+    planted: Planted,
+) -> Pair {
     let random = &mut Random::new(seed);
     // Many short pairs and few long ones: a short one shows most leaks, and the
     // long ones are for what takes long turns, long epochs or great ages.
@@ -141,7 +178,8 @@ fn pair_from(seed: u64, start: impl Fn(&Policy, &mut Random) -> State, planted: 
     };
     let file = searched_file(random, most_ticks, planted);
     let (policy, _) = policy::read_planted(&file, planted);
-    let class = searched_class(random, &policy);
+    let classes = chosen(random, &policy);
+    let seen = Seen::by(&policy, classes);
     let ticks = searched_ticks(random, &policy, most_ticks);
     let cuts = [0, 1].map(|_| match random.below(20) {
         0 | 1 => Cut::Runs,
@@ -149,11 +187,13 @@ fn pair_from(seed: u64, start: impl Fn(&Policy, &mut Random) -> State, planted: 
         _ => Cut::OneRun,
     });
     let start = start(&policy, random);
-    let lists = agreeing_lists(random, &policy, &start, class, ticks);
+    let lists = agreeing_lists(random, &policy, &start, classes, ticks);
     Pair {
         file,
         policy,
-        class,
+        classes,
+        seen,
+        refused: None,
         start,
         lists,
         cuts,
@@ -235,7 +275,7 @@ fn searched_epoch(random: &mut Random, most_turns: usize) -> usize {
 
 /// Any class, though one that may not see all others if chance allows. Often one with
 /// a minimum: what is in flight as its home turns start must not show.
-fn searched_class(random: &mut Random, policy: &Policy) -> usize {
+fn searched_class(random: &mut Random, policy: &Policy) -> ClassSet {
     let n = policy.class_count();
     let sees_all = |class: usize| (0..n).all(|other| policy.flows(other, class));
     let mut classes: Vec<usize> = (0..n).collect();
@@ -243,10 +283,19 @@ fn searched_class(random: &mut Random, policy: &Policy) -> usize {
         classes.retain(|&class| policy.minimums[class] > 0);
     }
     let class = *random.pick(&classes);
-    if sees_all(class) {
-        random.below(n)
-    } else {
-        class
+    ClassSet::of(match sees_all(class) {
+        true => random.below(n),
+        false => class,
+    })
+}
+
+/// Any set of classes, though one that does not see all others if chance allows.
+fn searched_set(random: &mut Random, policy: &Policy) -> ClassSet {
+    let classes = any_set(random, policy);
+    let seen = Seen::by(policy, classes);
+    match (0..policy.class_count()).all(|class| seen.has(class)) {
+        true => any_set(random, policy),
+        false => classes,
     }
 }
 
@@ -447,18 +496,18 @@ impl Side<'_> {
     }
 }
 
-/// Two lists with the same ticks and the same offers of classes that may flow to
-/// L; all other numbers are each list's own.
+/// Two lists with the same ticks and the same offers of classes that a set sees; all
+/// other numbers are each list's own.
 fn agreeing_lists(
     random: &mut Random,
     policy: &Policy,
     start: &State,
-    class: usize,
+    classes: ClassSet,
     ticks: usize,
 ) -> [Vec<u32>; 2] {
     let n = policy.class_count();
-    let (seen, hidden): (Vec<usize>, Vec<usize>) =
-        (0..n).partition(|&other| policy.flows(other, class));
+    let is_seen = Seen::by(policy, classes);
+    let (seen, hidden): (Vec<usize>, Vec<usize>) = (0..n).partition(|&other| is_seen.has(other));
     let quiet = ticks > LONG_SINCE && random.percent(50);
     let habits =
         |random: &mut Random| habits(random, n, if quiet { &QUIET_HABITS } else { &HABITS });
@@ -466,12 +515,14 @@ fn agreeing_lists(
     let hidden_habits = match random.below(10) {
         // Silence against whatever the neighbours do.
         0..=2 => [vec![Habit::Silent; n], habits(random)],
-        // Silence against a crowd: every queue is full, but that of L at times.
+        // Silence against a crowd: every queue is full, but that of L, or of each member, at
+        // times.
         3 => {
-            let own = seen_habits[class];
-            seen_habits = vec![Habit::KeepFull; n];
+            let own = std::mem::replace(&mut seen_habits, vec![Habit::KeepFull; n]);
             if random.percent(50) {
-                seen_habits[class] = own;
+                for member in classes.members() {
+                    seen_habits[member] = own[member];
+                }
             }
             [vec![Habit::Silent; n], vec![Habit::KeepFull; n]]
         }

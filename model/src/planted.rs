@@ -5,8 +5,8 @@
 /// Which wrong rule is in place.
 #[derive(Clone, Copy, Debug, Default, PartialEq, Eq)]
 pub enum Planted {
-    /// None: the rules of document 01 with W-201, W-202, W-203, W-206 and W-212. Every tick,
-    /// run, extract and program uses this.
+    /// None: the rules of document 01 with W-201, W-202, W-203, W-206, W-211 and W-212. Every
+    /// tick, run, extract and program uses this.
     #[default]
     Nothing,
     /// The dead time is always dropped.
@@ -153,9 +153,36 @@ pub enum Planted {
     OwnerNotTried,
     /// A home class that takes its home turn counts 0 tried classes. It leaks as little.
     HomeClassNotTried,
+    /// An extract for a set of classes keeps what may flow to every member. To the empty set it
+    /// shows everything, which leaks. Of a set with members it hides too much and leaks nothing:
+    /// there only a comparison with the right extract tells.
+    KeptForEveryMember,
+    /// An extract for a set of classes keeps the least class, whatever the set. The least class
+    /// may flow to every class, so that this is right for each set with a member: it shows, and
+    /// leaks, for the empty set alone.
+    LeastAlwaysKept,
+    /// The empty set is taken for the set of all classes.
+    EmptySetAsAll,
+    /// An extract for a set of classes is that for one class: the lowest to which all members may
+    /// flow, where there is one. For one class, and for one with others below it, that is right;
+    /// of two that are incomparable it shows what neither may see.
+    SetAsItsJoin,
+    /// An extract for a set with a class not below n gets 16 if what the others keep has no room,
+    /// and then 9. Two lists that agree for those others get the same: it is a wrong order, and
+    /// no leak. A comparison of the refusals tells.
+    RoomBeforeClass,
 }
 
-/// Every wrong rule that leaks in a list of calls from a fresh state.
+/// Every wrong rule of W-211's that leaks. For one class each of them is right: only pairs of lists
+/// that agree for a set show it.
+pub const LEAKS_OF_SETS: [Planted; 4] = [
+    Planted::KeptForEveryMember,
+    Planted::LeastAlwaysKept,
+    Planted::EmptySetAsAll,
+    Planted::SetAsItsJoin,
+];
+
+/// Every other wrong rule that leaks in a list of calls from a fresh state.
 pub const LEAKS: [Planted; 29] = [
     Planted::AlwaysElided,
     Planted::Document000Elision,

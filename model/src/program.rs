@@ -2,7 +2,8 @@
 
 use std::io::Write;
 
-use crate::extract::extract;
+use crate::class_set::ClassSet;
+use crate::extract::extract_set;
 use crate::policy::{self, Policy};
 use crate::refusal::Refusal;
 use crate::state;
@@ -51,8 +52,8 @@ pub fn output(policy_bytes: &[u8], trace_bytes: &[u8]) -> Vec<u8> {
     }
 }
 
-/// The extract for a class of that run's log, in the same form.
-pub fn extract_output(class: usize, policy_bytes: &[u8], trace_bytes: &[u8]) -> Vec<u8> {
+/// The extract of that run's log for a set of classes, in the same form.
+pub fn extract_output(classes: ClassSet, policy_bytes: &[u8], trace_bytes: &[u8]) -> Vec<u8> {
     let (policy, refusal) = policy::read(policy_bytes);
     if let Some(refusal) = refusal {
         return refused(POLICY_REFUSED, refusal);
@@ -61,7 +62,7 @@ pub fn extract_output(class: usize, policy_bytes: &[u8], trace_bytes: &[u8]) -> 
     match run_from_fresh(&policy, &trace.numbers) {
         Ok(log) => {
             let mut out = vec![0; log.len()];
-            match extract(&policy, class, &trace.numbers, &log, &mut out) {
+            match extract_set(&policy, classes, &trace.numbers, &log, &mut out) {
                 (count, None) => print_lines(&out[..count], trace.left_over),
                 (_, Some(refusal)) => refused(EXTRACT_REFUSED, refusal),
             }

@@ -4,6 +4,8 @@
 mod common;
 #[path = "cases/ranks.rs"]
 mod ranks;
+#[path = "cases/sets.rs"]
+mod sets;
 #[path = "cases/walk.rs"]
 mod walk;
 
@@ -836,7 +838,18 @@ fn two_counts() -> String {
         + &case("counts of 0 and 15, ", &[(1, 15)], &[])
 }
 
-/// An extract: its status, its count and the slice after it.
+/// An extract into a slice of some room: its status, its count and the slice after it.
+fn drawn_by(
+    room: usize,
+    extract: impl FnOnce(&mut [u32]) -> (usize, Option<Refusal>),
+) -> (String, Vec<u32>) {
+    let mut out = vec![MARKER; room];
+    let (count, refusal) = extract(&mut out);
+    let status = refusal.map_or(0, Refusal::number);
+    (format!("{status}, count {count}"), out)
+}
+
+/// An extract for a class.
 fn drawn(
     policy: &Policy,
     class: usize,
@@ -844,15 +857,11 @@ fn drawn(
     log: &[u32],
     room: usize,
 ) -> (String, Vec<u32>) {
-    let mut out = vec![MARKER; room];
-    let (count, refusal) = extract(policy, class, list, log, &mut out);
-    let status = refusal.map_or(0, Refusal::number);
-    (format!("{status}, count {count}"), out)
+    drawn_by(room, |out| extract(policy, class, list, log, out))
 }
 
-/// An extract, and the whole slice on its line.
-fn drawn_whole(policy: &Policy, class: usize, list: &[u32], log: &[u32], room: usize) -> String {
-    let (answer, out) = drawn(policy, class, list, log, room);
+/// An extract's answer, and the whole slice on its line.
+fn on_a_line((answer, out): (String, Vec<u32>)) -> String {
     let out: String = out.iter().map(|number| format!(" {number}")).collect();
     format!("{answer}, out{out}\n")
 }
@@ -860,15 +869,18 @@ fn drawn_whole(policy: &Policy, class: usize, list: &[u32], log: &[u32], room: u
 /// How an extract is asked for: the class, how many numbers of the trace and of the log, and the room.
 type Asked = (usize, usize, usize, usize);
 
-/// An extract of the first numbers of a trace with the first numbers of a log.
+/// A trace of a tick, an offer of class 1 and one of class 0, and a log that is longer than its.
+const SIZED: [u32; 3] = [0, 0x8110_0008, 0x8001_0007];
+#[rustfmt::skip]
+const SIZED_LOG: [u32; 16] = [
+    0, 0x8001_0001, 0x8100_0002, 258, 11, 1, 2, 3, 10, 4, 5, 6, 0, 0, 0, 0,
+];
+
+/// An extract of the first numbers of that trace with the first numbers of that log.
 fn sized(name: &str, policy: &Policy, asked: Asked) -> String {
     let (class, numbers, length, room) = asked;
-    let list = [0, 0x8110_0008, 0x8001_0007];
-    #[rustfmt::skip]
-    let log = [
-        0, 0x8001_0001, 0x8100_0002, 258, 11, 1, 2, 3, 10, 4, 5, 6, 0, 0, 0, 0,
-    ];
-    let line = drawn_whole(policy, class, &list[..numbers], &log[..length], room);
+    let drawn = drawn(policy, class, &SIZED[..numbers], &SIZED_LOG[..length], room);
+    let line = on_a_line(drawn);
     format!("{name}, class {class}, trace of {numbers}, log of {length}, room for {room}: {line}")
 }
 
@@ -878,11 +890,16 @@ fn under_printed(cases: &[Asked]) -> String {
     cases.iter().map(line).collect()
 }
 
-/// The extracts under document 01's policy with an E of 0.
-fn under_unfit(cases: &[Asked]) -> String {
+/// Document 01's policy with an E of 0.
+fn unfit_policy() -> Policy {
     let mut unfit = printed_policy();
     unfit.epoch = 0;
-    let line = |&asked| sized("two classes, E = 0", &unfit, asked);
+    unfit
+}
+
+/// The extracts under it.
+fn under_unfit(cases: &[Asked]) -> String {
+    let line = |&asked| sized("two classes, E = 0", &unfit_policy(), asked);
     cases.iter().map(line).collect()
 }
 
@@ -928,7 +945,8 @@ const EXTRACT_ORDER: [Asked; 5] = [
 /// An empty trace, and one of which nothing is kept: a malformed word and an offer of class 1.
 fn nothing_kept() -> String {
     let dropped = |room| {
-        let line = drawn_whole(&printed_policy(), 0, &[1, 0x8110_0008], &[5; 8], room);
+        let drawn = drawn(&printed_policy(), 0, &[1, 0x8110_0008], &[5; 8], room);
+        let line = on_a_line(drawn);
         format!("nothing kept, class 0, trace of 2, log of 8, room for {room}: {line}")
     };
     under_printed(&[(0, 0, 0, 0), (1, 0, 0, 4)]) + &dropped(0) + &dropped(4)
@@ -1065,6 +1083,7 @@ fn the_proved_program_answers_as_the_model_does() {
             chains(),
             ranks::policies(),
             walk::policies(),
+            sets::policies(),
         ]
         .concat(),
     );
@@ -1072,7 +1091,7 @@ fn the_proved_program_answers_as_the_model_does() {
         "cases_calls",
         &[calls(), runs(), ranks::calls(), walk::calls()].concat(),
     );
-    assert_eq!((policies, calls), (1226, 1435));
+    assert_eq!((policies, calls), (1513, 1435));
 }
 
 #[test]

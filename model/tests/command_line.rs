@@ -7,7 +7,9 @@ use std::path::{Path, PathBuf};
 use std::process::{Command, Output};
 
 use common::*;
-use vigambul_model::{generate, program};
+use vigambul_model::class_set::ClassSet;
+use vigambul_model::generate::{self, PolicyFields};
+use vigambul_model::program;
 
 /// A folder of its own for one test, gone when the test is over.
 struct Folder(PathBuf);
@@ -87,7 +89,7 @@ fn a_missing_policy_file_is_read_as_empty() {
     assert_eq!(text(&program::output(&[], &trace)), "policy refused 1\n");
     assert_eq!(text(&program::output(&[], &[])), "policy refused 1\n");
     assert_eq!(
-        text(&program::extract_output(0, &[], &trace)),
+        text(&program::extract_output(ClassSet::of(0), &[], &trace)),
         "policy refused 1\n"
     );
     let folder = Folder::new("empty-policy")
@@ -197,6 +199,51 @@ fn extract_prints_what_a_class_sees() {
          00000000 C1000007 00000000 00000000\n"
     );
     assert_eq!(printed(&["extract", "2"], &folder), "extract refused 9\n");
+    assert_eq!(printed(&["extract", "32"], &folder), "extract refused 9\n");
+}
+
+/// Two tenants, 1 and 2, over a base. Of the three offers each misses one alone, and the two of them none.
+#[test]
+fn extract_prints_what_a_set_of_classes_sees() {
+    let file = PolicyFields::new(&FORK, 3, &[0, 1, 1], TIMING).encode();
+    let trace = [read_word(0, 5), read_word(1, 7), read_word(2, 8), 0];
+    let folder = Folder::new("extract-set")
+        .with("policy.bin", &file)
+        .with("trace.bin", &trace_bytes(&trace));
+    let offer = "00000000 00000000 00000000 00000000\n";
+    let tick = "00000000 80000005 00000000 00010101\n";
+    let hidden = "00000000 00000000 00000000 00000200\n";
+    let lines = |offers: usize, tick: &str| {
+        let offers = offer.repeat(offers);
+        format!("status command answer turn\n{offers}{tick}")
+    };
+    for (set, expected) in [
+        ("none", lines(0, hidden)),
+        ("0", lines(1, tick)),
+        ("1", lines(2, tick)),
+        ("2", lines(2, tick)),
+        ("1,2", lines(3, tick)),
+        ("2,1", lines(3, tick)),
+        ("0,1,2", lines(3, tick)),
+        ("1,1", lines(2, tick)),
+        ("1,3", "extract refused 9\n".to_string()),
+        ("1,15", "extract refused 9\n".to_string()),
+        ("16", "extract refused 9\n".to_string()),
+        ("1,2,31", "extract refused 9\n".to_string()),
+        ("1,4294967296", "extract refused 9\n".to_string()),
+    ] {
+        assert_eq!(printed(&["extract", set], &folder), expected, "{set}");
+    }
+}
+
+#[test]
+fn a_refused_policy_is_told_before_a_set() {
+    let folder = Folder::new("refused-set")
+        .with("policy.bin", &[3])
+        .with("trace.bin", &[]);
+    for set in ["none", "0,1", "31"] {
+        assert_eq!(printed(&["extract", set], &folder), "policy refused 1\n");
+    }
 }
 
 #[test]
@@ -221,8 +268,15 @@ fn leaks_reports_what_it_covered() {
     let output = call(&["leaks", "50"], None);
     assert_eq!(output.status.code(), Some(0));
     let report = text(&output.stdout);
-    assert!(report.starts_with("pairs compared: 50\n"), "{report}");
-    assert!(report.ends_with("no leak found\n"), "{report}");
+    let (of_classes, of_sets) = report
+        .split_once("\nsets of classes:\n")
+        .expect("both searches");
+    for report in [of_classes, of_sets] {
+        assert!(report.starts_with("pairs compared: 50\n"), "{report}");
+        assert!(report.ends_with("no leak found\n"), "{report}");
+    }
+    assert!(of_sets.contains("\nthe empty set: "), "{of_sets}");
+    assert!(!of_classes.contains("set of"), "{of_classes}");
 }
 
 #[test]
@@ -252,7 +306,7 @@ fn help_is_printed_when_asked_for() {
     let usage = text(&output.stdout);
     for command in [
         "run DIR",
-        "extract L DIR",
+        "extract SET DIR",
         "generate SEED DIR",
         "leaks COUNT",
     ] {
@@ -262,7 +316,7 @@ fn help_is_printed_when_asked_for() {
 
 #[test]
 fn wrong_arguments_are_told_with_the_usage() {
-    let wrong: [&[&str]; 14] = [
+    let wrong: [&[&str]; 20] = [
         &[],
         &["walk"],
         &["run"],
@@ -271,6 +325,12 @@ fn wrong_arguments_are_told_with_the_usage() {
         &["extract", "0"],
         &["extract", "x", "a"],
         &["extract", "-1", "a"],
+        &["extract", "", "a"],
+        &["extract", "1,", "a"],
+        &["extract", "1,,2", "a"],
+        &["extract", "1, 2", "a"],
+        &["extract", "1,none", "a"],
+        &["extract", "1", "2", "a"],
         &["generate", "1"],
         &["generate", "one", "a"],
         &["leaks"],

@@ -9,8 +9,6 @@ use vigambul_model::policy::Policy;
 use vigambul_model::random::Random;
 use vigambul_model::refusal::Refusal;
 
-const HIDDEN: u32 = 512;
-
 /// The extract with room enough, which must not be refused.
 fn extracted(policy: &Policy, class: usize, trace: &[u32], log: &[u32]) -> Vec<u32> {
     let mut out = vec![77; log.len() + 3];
@@ -261,23 +259,8 @@ fn arbitrary_logs() {
         let log: Vec<u32> = (0..4 * length).map(|_| word()).collect();
         for class in 0..4u32 {
             let seen = |other: u32| other < 4 && flows(other, class);
-            let mut expected = Vec::new();
-            for (&number, line) in trace.iter().zip(log.chunks(4)) {
-                let is_offer = number >> 31 == 1 && number & 0x6000_0000 == 0;
-                if is_offer && seen(number >> 24 & 31) {
-                    expected.extend_from_slice(line);
-                } else if number == 0 {
-                    let shown = |word: u32| if seen(word >> 24 & 31) { word } else { 0 };
-                    let low = line[3] & 255;
-                    let turn = match line[3] {
-                        0 => 0,
-                        turn if low > 0 && seen(low - 1) => turn,
-                        _ => HIDDEN,
-                    };
-                    hidden_turns += u32::from(turn == HIDDEN);
-                    expected.extend([line[0], shown(line[1]), shown(line[2]), turn]);
-                }
-            }
+            let expected = extract_in_words(seen, &trace, &log);
+            hidden_turns += expected.chunks(4).filter(|line| line[3] == HIDDEN).count();
             assert_eq!(extracted(&policy, class as usize, &trace, &log), expected);
         }
     }

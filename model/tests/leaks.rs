@@ -1,12 +1,13 @@
-//! "Two lists side by side": the search for leaks finds every planted one and
-//! none in the model as it is.
+//! "Two lists side by side": the search for leaks, to a class and to W-211's sets of classes, finds
+//! every planted one and none in the model as it is.
 
 use std::sync::OnceLock;
 
 use vigambul_model::altered::Altered;
 use vigambul_model::leaks::{
-    self, check_altered, search, search_planted, search_used_up, Check, Search, ORDINARY_PAIRS,
-    PAIRS_ENOUGH,
+    self, all_leaks_to_sets, check_altered, search, search_planted, search_sets,
+    search_sets_planted, search_used_up, Check, Pair, Search, ORDINARY_PAIRS,
+    ORDINARY_PAIRS_OF_SETS, PAIRS_ENOUGH, PAIRS_OF_SETS_ENOUGH,
 };
 use vigambul_model::planted::{self, Planted};
 
@@ -23,11 +24,19 @@ fn found(planted: Planted, search: Search) -> Option<Check> {
         search.met.pairs(),
         search.leak
     );
+    let pairs = search.met.pairs();
     assert!(
         search.leak.is_some(),
-        "{planted:?} was not found in {PAIRS_ENOUGH} pairs"
+        "{planted:?} was not found in {pairs} pairs"
     );
     search.leak.map(|leak| leak.check)
+}
+
+/// The same of a leak to sets of classes. For one class the rule is right.
+fn finds_for_sets(planted: Planted) -> Option<Check> {
+    assert!(planted::LEAKS_OF_SETS.contains(&planted), "{planted:?}");
+    let search = search_sets_planted(PAIRS_OF_SETS_ENOUGH, planted);
+    found(planted, search)
 }
 
 /// The search of the model as it is, made once for all tests that ask.
@@ -36,12 +45,23 @@ fn ordinary_search() -> &'static Search {
     SEARCH.get_or_init(|| search(ORDINARY_PAIRS))
 }
 
+/// The same for sets of classes.
+fn ordinary_search_of_sets() -> &'static Search {
+    static SEARCH: OnceLock<Search> = OnceLock::new();
+    SEARCH.get_or_init(|| search_sets(ORDINARY_PAIRS_OF_SETS))
+}
+
+/// The replay is by `leaks::pair` and `leaks::pair_of_set`.
 #[test]
 fn the_model_as_it_is_shows_no_leak() {
-    let search = ordinary_search();
-    println!("{}", search.report());
-    assert_eq!(search.leak, None, "replay it with leaks::pair(seed)");
-    assert_eq!(search.met.pairs(), ORDINARY_PAIRS);
+    for (search, pairs) in [
+        (ordinary_search(), ORDINARY_PAIRS),
+        (ordinary_search_of_sets(), ORDINARY_PAIRS_OF_SETS),
+    ] {
+        println!("{}", search.report());
+        assert_eq!(search.leak, None);
+        assert_eq!(search.met.pairs(), pairs);
+    }
 }
 
 #[test]
@@ -50,20 +70,31 @@ fn the_search_covers_what_it_must() {
 }
 
 #[test]
-fn every_pair_is_of_lists_that_agree_and_differ() {
+fn the_search_for_sets_covers_what_it_must() {
+    assert_eq!(ordinary_search_of_sets().met.too_little(), [""; 0]);
+}
+
+/// Of so many pairs, all lists agree and most differ.
+fn check_pairs(pair: fn(u64) -> Pair, count: u64) {
     let mut different = 0;
-    for seed in 0..ORDINARY_PAIRS {
-        let pair = leaks::pair(seed);
+    for seed in 0..count {
+        let pair = pair(seed);
         let [left, right] = [0, 1].map(|side| &pair.lists[side]);
-        let left_over = leaks::purge(&pair.policy, pair.class, left);
-        assert_eq!(
-            left_over,
-            leaks::purge(&pair.policy, pair.class, right),
-            "seed {seed}"
-        );
+        let [left_over, other] = [left, right].map(|list| leaks::purge(pair.seen, list));
+        assert_eq!(left_over, other, "seed {seed}");
         different += u64::from(left != right);
     }
-    assert!(different > ORDINARY_PAIRS / 2, "only {different} differ");
+    assert!(different > count / 2, "only {different} differ");
+}
+
+#[test]
+fn every_pair_is_of_lists_that_agree_and_differ() {
+    check_pairs(leaks::pair, ORDINARY_PAIRS);
+}
+
+#[test]
+fn every_pair_for_a_set_is_of_lists_that_agree_and_differ() {
+    check_pairs(leaks::pair_of_set, PAIRS_OF_SETS_ENOUGH);
 }
 
 #[test]
@@ -241,6 +272,68 @@ fn finds_a_count_of_tried_classes_of_the_turn_before() {
     assert_eq!(check, Some(Check::Turn));
 }
 
+/// "kept is what may flow to every member" is true of every class where there is no member.
+#[test]
+fn finds_a_set_extract_that_keeps_what_may_flow_to_every_member() {
+    finds_for_sets(Planted::KeptForEveryMember);
+}
+
+#[test]
+fn finds_a_set_extract_that_always_keeps_the_least_class() {
+    finds_for_sets(Planted::LeastAlwaysKept);
+}
+
+#[test]
+fn finds_an_empty_set_that_is_taken_for_all_classes() {
+    finds_for_sets(Planted::EmptySetAsAll);
+}
+
+#[test]
+fn finds_a_set_that_is_taken_for_a_class_above_its_members() {
+    finds_for_sets(Planted::SetAsItsJoin);
+}
+
+/// Of each of these the leak is to sets alone, and of all but the last to the empty set alone: of the
+/// pairs that show one, each agrees for it.
+#[test]
+fn leaks_to_sets_show_in_no_pair_for_one_class() {
+    for planted in planted::LEAKS_OF_SETS {
+        let search = search_planted(PAIRS_OF_SETS_ENOUGH, planted);
+        assert_eq!(search.leak, None, "{planted:?}");
+        let mut leaks = all_leaks_to_sets(PAIRS_OF_SETS_ENOUGH, planted).peekable();
+        assert!(leaks.peek().is_some(), "{planted:?}");
+        let to_the_empty_set = leaks.all(|leak| leak.classes.is_empty());
+        assert_eq!(
+            to_the_empty_set,
+            planted != Planted::SetAsItsJoin,
+            "{planted:?}"
+        );
+    }
+}
+
+/// Both lists of a pair get the same number: `sets.rs` finds this wrong order.
+#[test]
+fn sixteen_before_nine_does_not_leak() {
+    let search = search_sets_planted(PAIRS_OF_SETS_ENOUGH, Planted::RoomBeforeClass);
+    assert_eq!(search.leak, None);
+}
+
+/// A tick or an offer that leaks to a class leaks to sets too, in the log or in what is stored.
+#[test]
+fn the_search_for_sets_finds_leaks_in_the_log_and_in_stored_parts() {
+    for (planted, check) in [
+        (Planted::TriedToTheTop, Check::Turn),
+        (Planted::LastKindFirst, Check::Command),
+        (Planted::MarkCarried, Check::Mark),
+        (Planted::HomeChargedIfHigherWaits, Check::TurnsLeft),
+        (Planted::OneCount, Check::Passed),
+        (Planted::RunAnswersForItsLastWord, Check::Run),
+    ] {
+        let search = search_sets_planted(PAIRS_ENOUGH, planted);
+        assert_eq!(found(planted, search), Some(check), "{planted:?}");
+    }
+}
+
 /// These are wrong rules, which `promises.rs` finds, and yet each of them follows from the right count and
 /// from whose turn it is.
 #[test]
@@ -295,8 +388,8 @@ const ALTERED: [(Altered, Option<Check>); 21] = [
 
 /// How many of some pairs can be changed so. In each that can, the one
 /// comparison must tell.
-fn count_told(altered: Altered, check: Option<Check>) -> usize {
-    let told = |&seed: &u64| match check_altered(seed, altered) {
+fn count_told(pair: fn(u64) -> Pair, altered: Altered, check: Option<Check>) -> usize {
+    let told = |&seed: &u64| match check_altered(&pair(seed), seed, altered) {
         None => false,
         Some(fired) => {
             assert_eq!(fired, check, "{altered:?}, seed {seed}");
@@ -306,11 +399,23 @@ fn count_told(altered: Altered, check: Option<Check>) -> usize {
     (0..200).filter(told).count()
 }
 
-#[test]
-fn each_comparison_is_made_and_tells_what_it_alone_can_tell() {
-    for (altered, check) in ALTERED {
-        let count = count_told(altered, check);
+/// Makes each change in the outcomes of some pairs.
+fn check_comparisons(pair: fn(u64) -> Pair, altered: &[(Altered, Option<Check>)]) {
+    for &(altered, check) in altered {
+        let count = count_told(pair, altered, check);
         println!("{altered:?}: told by {check:?} in {count} of 200 pairs");
         assert!(count > 50 || altered == Altered::Nothing, "{altered:?}");
     }
+}
+
+#[test]
+fn each_comparison_is_made_and_tells_what_it_alone_can_tell() {
+    check_comparisons(leaks::pair, &ALTERED);
+}
+
+#[test]
+fn each_comparison_of_sets_is_made_and_tells_what_it_alone_can_tell() {
+    check_comparisons(leaks::pair_of_set, &ALTERED);
+    let of_sets_alone = (Altered::RefusedSetTaken, Some(Check::RefusedSet));
+    check_comparisons(leaks::pair_of_set, &[of_sets_alone]);
 }

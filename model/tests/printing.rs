@@ -3,6 +3,7 @@
 mod common;
 
 use common::*;
+use vigambul_model::class_set::ClassSet;
 use vigambul_model::generate::{chain_rows, PolicyFields};
 use vigambul_model::program;
 
@@ -59,7 +60,8 @@ fn extracts_are_printed_in_the_same_form() {
         .flat_map(|number| number.to_le_bytes())
         .chain([1, 2, 3])
         .collect();
-    let extract = |class| program::extract_output(class, &PRINTED_POLICY, &trace);
+    let extract_of = |classes| program::extract_output(classes, &PRINTED_POLICY, &trace);
+    let extract = |class| extract_of(ClassSet::of(class));
     assert_eq!(
         String::from_utf8_lossy(&extract(0)),
         "status command answer turn\n\
@@ -76,7 +78,11 @@ fn extracts_are_printed_in_the_same_form() {
     assert_eq!(extract(2), b"extract refused 9\n");
     assert_eq!(extract(usize::MAX), b"extract refused 9\n");
     assert_eq!(
-        program::extract_output(9, &[], &trace),
+        program::extract_output(ClassSet::of(9), &[], &trace),
         b"policy refused 1\n"
     );
+    // The least class sees no more here than nobody does.
+    assert_eq!(extract_of(ClassSet::EMPTY), extract(0));
+    assert_eq!(extract_of(ClassSet(0b11)), extract(1));
+    assert_eq!(extract_of(ClassSet(0b110)), b"extract refused 9\n");
 }

@@ -30,7 +30,13 @@ class Leaking:
         return self.library.run(policy, trace)
 
     def extract(self, policy, seen_by, trace, log):
-        status, out = self.library.extract(policy, seen_by, trace, log)
+        return self.leaked(self.library.extract(policy, seen_by, trace, log), trace, log)
+
+    def extract_set(self, policy, classes, trace, log):
+        return self.leaked(self.library.extract_set(policy, classes, trace, log), trace, log)
+
+    def leaked(self, extracted, trace, log):
+        status, out = extracted
         self.leak(out, trace, log)
         return status, out
 
@@ -140,9 +146,9 @@ class Parts(Case):
     def test_purge(self):
         policy = policy_of((IDLE / "policy.bin").read_bytes())
         trace = [0, 0x80000001, 0x81000002, 0x82000003, 0x83000004, 1, 0xC1000001, 0x81080005, 0]
-        self.assertEqual(list(purge(trace, policy, 1)), [0, 0x80000001, 0x81000002, 0x81080005, 0])
-        self.assertEqual(list(purge(trace, policy, 0)), [0, 0x80000001, 0])
-        self.assertEqual([place_of_seen(trace, policy, 1, number) for number in range(6)], [0, 1, 2, 7, 8, None])
+        self.assertEqual(list(purge(trace, policy, (1,))), [0, 0x80000001, 0x81000002, 0x81080005, 0])
+        self.assertEqual(list(purge(trace, policy, (0,))), [0, 0x80000001, 0])
+        self.assertEqual([place_of_seen(trace, policy, (1,), number) for number in range(6)], [0, 1, 2, 7, 8, None])
 
     def test_purge_is_as_long_as_the_extract(self):
         """The extract has four numbers for each trace number that is left, by whatever trace."""
@@ -154,7 +160,7 @@ class Parts(Case):
             _, log = library.run(data, trace)
             for seen_by in range(policy.classes):
                 status, out = library.extract(data, seen_by, trace, log)
-                self.assertEqual((status, len(out)), (0, 4 * len(purge(trace, policy, seen_by))))
+                self.assertEqual((status, len(out)), (0, 4 * len(purge(trace, policy, (seen_by,)))))
 
 
 class Search(Case):
@@ -166,7 +172,7 @@ class Search(Case):
         for name in ("diamond", "two-tenants", "single-class", "two-ranks"):
             policy = policy_of((EXAMPLES / name / "policy.bin").read_bytes())
             for number in range(60):
-                seen_by = number % policy.classes
+                seen_by = (number % policy.classes,)
                 one, other = pair_of(Draws(name, number), policy, seen_by)
                 self.assertIsNone(premise(policy, seen_by, one, other))
                 self.assertGreaterEqual(one.count(0), 3 * policy.epoch * policy.turn)
@@ -176,7 +182,7 @@ class Search(Case):
         data = (IDLE / "policy.bin").read_bytes()
         policy, library, statuses = policy_of(data), build.library(), set()
         for number in range(40):
-            for trace in pair_of(Draws("all", number), policy, 1):
+            for trace in pair_of(Draws("all", number), policy, (1,)):
                 status, log = library.run(data, trace)
                 self.assertEqual(status, 0)
                 statuses |= set(log[::4])
@@ -195,7 +201,7 @@ class Search(Case):
         for name, ranks, statuses in (("two-ranks", {0, 1, 2, 3}, {0, 9, 10, 11, 14}), ("two-tenants", {0}, {0, 9, 10, 11, 14})):
             data, met, drawn, refused = (EXAMPLES / name / "policy.bin").read_bytes(), set(), set(), 0
             for number in range(40):
-                for trace in pair_of(Draws("ranks", number), policy_of(data), 0):
+                for trace in pair_of(Draws("ranks", number), policy_of(data), (0,)):
                     _, log = build.library().run(data, trace)
                     met |= set(log[::4])
                     requests = [(request_of(word), status) for word, status in zip(trace, log[::4]) if is_offer(word)]
@@ -207,7 +213,7 @@ class Search(Case):
         policy = policy_of((IDLE / "policy.bin").read_bytes())
         for number in range(50):
             words = [word for row in filling(Draws(number), policy, [2], 60).values() for word in row]
-            self.assertEqual(list(purge(words, policy, 1)), [])
+            self.assertEqual(list(purge(words, policy, (1,))), [])
 
     def test_nothing_is_learnt(self):
         for name in ("diamond", "two-tenants", "chain-of-three", "single-class", "two-ranks"):
@@ -220,7 +226,7 @@ class Search(Case):
         library, shown = build.library(), 0
         for number in range(25):
             policy = a_policy(Draws("any policy", number))
-            figures = searched(library, policy.to_bytes(), Names(), list(range(policy.classes)), 8, number)
+            figures = searched(library, policy.to_bytes(), Names(), [(seen_by,) for seen_by in range(policy.classes)], 8, number)
             self.assertEqual(sum(one.pairs for one in figures.values()), 8)
             self.assertEqual(sum(one.extracts_differ for one in figures.values()), 0)
             shown += sum(one.logs_differ for one in figures.values())

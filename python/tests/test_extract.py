@@ -7,7 +7,24 @@ from vigambul.formats import REFUSALS, bytes_of
 from .support import EXAMPLES, Case
 
 
-class Extract(Case):
+class ExtractCase(Case):
+    def check_words(self, folder, options, others):
+        """One line in words for each line of numbers; what is hidden is hidden in words too, and no word is of others."""
+        lines = self.succeeds("extract", folder, *options).splitlines()[1:]
+        words = self.succeeds("extract", folder, *options, "--words").splitlines()
+        self.assertEqual(len(lines), len(words))
+        for line, text in zip(lines, words):
+            status, command, answer, turn = (int(number, 16) for number in line.split())
+            self.assertEqual("activate" in text or "column" in text, command != 0)
+            self.assertEqual("answer" in text, answer != 0)
+            self.assertEqual("turn of" in text, turn != 0)
+            self.assertEqual("turn of a class that may not be seen" in text, turn == 512)
+            self.assertFalse(turn == 512 and "home turn" in text)
+            self.assertEqual("refused" in text, status != 0)
+        self.assertFalse([text for text in words if any(other in text for other in others)])
+
+
+class Extract(ExtractCase):
     def test_stored(self):
         for folder, name in (("two-tenants-busy", "red"), ("two-tenants-busy", "blue"), ("refused-calls", "low"), ("diamond", "left"), ("two-ranks", "host")):
             with self.subTest(folder, name=name):
@@ -15,21 +32,8 @@ class Extract(Case):
                 self.stored("extract/%s-%s.words.txt" % (folder, name), self.succeeds("extract", EXAMPLES / folder, "--class", name, "--words"))
 
     def test_words_have_the_lines(self):
-        """One line in words for each line of numbers; what is hidden is hidden in words too."""
-        for name in ("base", "red", "blue"):
-            lines = self.succeeds("extract", EXAMPLES / "two-tenants-busy", "--class", name).splitlines()[1:]
-            words = self.succeeds("extract", EXAMPLES / "two-tenants-busy", "--class", name, "--words").splitlines()
-            self.assertEqual(len(lines), len(words))
-            for line, text in zip(lines, words):
-                status, command, answer, turn = (int(number, 16) for number in line.split())
-                self.assertEqual("activate" in text or "column" in text, command != 0)
-                self.assertEqual("answer" in text, answer != 0)
-                self.assertEqual("turn of" in text, turn != 0)
-                self.assertEqual("turn of a class that may not be seen" in text, turn == 512)
-                self.assertFalse(turn == 512 and "home turn" in text)
-                self.assertEqual("refused" in text, status != 0)
-            others = {"base": ("red", "blue"), "red": ("blue",), "blue": ("red",)}[name]
-            self.assertFalse([text for text in words if any(other in text for other in others)])
+        for name, others in (("base", ("red", "blue")), ("red", ("blue",)), ("blue", ("red",))):
+            self.check_words(EXAMPLES / "two-tenants-busy", ["--class", name], others)
 
     def test_passing(self):
         """A class sees who passes among those that it may see, and no others."""
@@ -86,4 +90,4 @@ class Extract(Case):
         self.assertEqual(self.succeeds("extract", self.room, "--class", "0", "--words"), "")
 
     def test_help(self):
-        self.assertIn("example:", self.succeeds("extract", "--help"))
+        self.assertIn("examples:", self.succeeds("extract", "--help"))

@@ -104,7 +104,7 @@ class Known(unittest.TestCase):
         for policy in (a_policy(), a_policy(2)):
             for seen_by, flowing in ((0, {0}), (1, {0, 1}), (2, {0, 2})):
                 kept = [0, *(word for word in offers if request_of(word).class_ in flowing), 0]
-                self.assertEqual(list(purge(trace, policy, seen_by)), kept)
+                self.assertEqual(list(purge(trace, policy, (seen_by,))), kept)
 
 
 class Runs(Case):

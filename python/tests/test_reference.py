@@ -1,4 +1,4 @@
-"""docs/REFERENCE.md says what the tool does: its table of refusals, its examples, and that no command or option is forgotten."""
+"""docs/REFERENCE.md says what the tool does: its table of refusals, its examples, and that no command or option is forgotten. The READMEs of the examples show what it prints too."""
 
 import os
 import re
@@ -18,9 +18,14 @@ def without_seconds(text):
     return re.sub(r" +[0-9]+\.[0-9]{2}$", "", text, flags=re.MULTILINE)
 
 
-def blocks(kind=""):
+def blocks(kind="", text=TEXT):
     """The texts between fences of a kind."""
-    return re.findall(r"^```%s\n(.*?)^```$" % kind, TEXT, flags=re.MULTILINE | re.DOTALL)
+    return re.findall(r"^```%s\n(.*?)^```$" % kind, text, flags=re.MULTILINE | re.DOTALL)
+
+
+def examples_of(text):
+    """The commands that a text shows, each with the lines that it prints below it."""
+    return [example for block in blocks(text=text) if block.startswith("$ ") for example in block[2:].split("\n$ ")]
 
 
 def pattern(lines):
@@ -36,14 +41,15 @@ class Reference(Case):
         self.assertEqual(table, {number: [refusal.when, refusal.cause, refusal.mend] for number, refusal in REFUSALS.items()})
 
     def test_examples(self):
-        """Each example prints what stands below it."""
+        """Each example prints what stands below it, here and in the README of a folder."""
         os.symlink(EXAMPLES, self.room / "examples")
         here = os.getcwd()
         self.addCleanup(os.chdir, here)
         os.chdir(self.room)
-        examples = [example for block in blocks() if block.startswith("$ ") for example in block[2:].split("\n$ ")]
+        examples, in_folders = examples_of(TEXT), [example for path in EXAMPLES.glob("*/README.md") for example in examples_of(path.read_text())]
         self.assertGreater(len(examples), 15)
-        for example in examples:
+        self.assertGreater(len(in_folders), 8)
+        for example in examples + in_folders:
             command, *lines = example.splitlines()
             launcher, *words = shlex.split(command)
             self.assertEqual(launcher, "./vig", command)

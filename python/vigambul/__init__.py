@@ -25,9 +25,11 @@ the modules here turn texts into their files and their numbers into words, table
 | `traffic_streams` | traffic as TOML with streams |
 | `trace_words` | a trace in words |
 | `draws` | random choices that stay the same |
-| `purge` | what of a trace a class may know |
+| `class_sets` | sets of classes that compare notes: as a command line gives them, and how they are called |
+| `purge` | what of a trace a set of classes may know |
+| `seen` | what a set of classes sees of a run |
 | `blind` | two traces side by side: the premise, and two extracts |
-| `blind_search` | random pairs of traces that agree for a class |
+| `blind_search` | random sets of classes, and random pairs of traces that agree for a set |
 | `history` | a log told from its start on: calls with their cycles, turns, requests, queue lengths, turns left |
 | `figures`, `report` | the service figures of runs, and their report as table, CSV and JSON |
 | `waveform` | a run as a value change dump, with a GTKWave save file |

@@ -1,9 +1,6 @@
-"""Two traces of one policy side by side: does a class learn anything of what it may not know? The premise is that the two agree for the class once what it may not know is struck
-out; then its two extracts, by the proved extract, must be equal. That they are is a theorem; here it can be watched."""
+"""Two traces of one policy side by side: does a class, or a set of classes that compare notes, learn anything of what it may not know? The premise is that the two agree for the
+set once what it may not know is struck out; then its two extracts, by the proved extract, must be equal. That they are is a theorem; here it can be watched."""
 
-from dataclasses import dataclass
-
-from .folders import extract_of
 from .formats import differ_in_walk
 from .history import calls_of
 from .purge import place_of_seen, purge
@@ -19,33 +16,15 @@ def first_difference(left, right):
     return next((place for place, (one, other) in enumerate(zip(left, right)) if one != other), min(len(left), len(right)))
 
 
-def premise(policy, seen_by, trace, other):
-    """Where two traces, once purged for a class, first differ; None if they agree for it."""
-    return first_difference(purge(trace, policy, seen_by), purge(other, policy, seen_by))
+def premise(policy, members, trace, other):
+    """Where two traces, once purged for a set, first differ; None if they agree for it."""
+    return first_difference(purge(trace, policy, members), purge(other, policy, members))
 
 
-@dataclass
-class Seen:
-    """A run as a class sees it: the trace numbers that are left for it, and the extract, four numbers for each."""
-
-    ran: object
-    words: object
-    numbers: object
-
-    @property
-    def struck(self):
-        """How many calls were struck out."""
-        return len(self.ran.trace) - len(self.words)
-
-
-def seen_of(library, ran, seen_by):
-    return Seen(ran, purge(ran.trace, ran.policy, seen_by), extract_of(library, ran, seen_by))
-
-
-def premise_words(policy, seen_by, names, runs, place):
+def premise_words(policy, members, names, runs, place):
     """The place at which the premise fails, for both runs."""
     for ran in runs:
-        at = place_of_seen(ran.trace, policy, seen_by, place)
+        at = place_of_seen(ran.trace, policy, members, place)
         where = "%s: " % (ran.folder.path / "trace.bin")
         yield where + ("no more trace numbers" if at is None else "trace number %d: %08X, %s" % (at + 1, ran.trace[at], trace_words(ran.trace[at], names)))
 

@@ -1,22 +1,38 @@
-"""Pairs of traces that agree for a class and differ in what its neighbours do, made to bring a leak to light if there were one: neighbours that are idle or keep their queues
-full, that come in bursts at the edges of turns and epochs, and words that are malformed or name no class. Each pair rests on the seed and its number alone."""
+"""Pairs of traces that agree for a set of classes and differ in what its neighbours do, those that may flow to no member, made to bring a leak to light if there were one:
+neighbours that are idle or keep their queues full, that come in bursts at the edges of turns and epochs, and words that are malformed or name no class. Each pair rests on the seed
+and its number alone, and so does each set that is drawn."""
 
 from dataclasses import dataclass
 from itertools import compress
 from operator import not_
 from pathlib import Path
 
-from .blind import difference_words, first_difference, seen_of
+from .blind import difference_words, first_difference
 from .draws import Draws
 from .folders import Folder, run_folder
 from .formats import BANKS, CLASSES, COLUMN, OFFER, QUEUE_PLACES, RANKS, Request, words_of
 from .policies import policy_of
+from .seen import seen_of
 
 # A pair passes so many epochs, and ticks at least so often.
 EPOCHS = 3
 LEAST_CYCLES = 64
 # A bit that belongs to no field of an offer.
 STRAY = 1 << 29
+# Of the sets that are drawn so many are empty: they see the least, and there is but one.
+EMPTY = 0.1
+
+
+def a_set(draws, classes):
+    """Any set of so many classes, small ones more often: from a large one little is hidden."""
+    size = 0 if draws.chance(EMPTY) else 1 + min(draws.below(classes), draws.below(classes))
+    others = list(range(classes))
+    return tuple(sorted(others.pop(draws.below(len(others))) for _ in range(size)))
+
+
+def drawn_sets(classes, pairs, seed):
+    """A set for each pair of a search."""
+    return [a_set(Draws("set", seed, number), classes) for number in range(pairs)]
 
 
 def a_request(draws, policy, number):
@@ -80,7 +96,7 @@ def offers_of(draws, policy, classes, cycles):
 
 
 def filling(draws, policy, hidden, cycles):
-    """What a class may not know: its neighbours' offers, and stray words."""
+    """What a set may not know: its neighbours' offers, and stray words."""
     by_cycle = {} if draws.chance(0.2) else offers_of(draws, policy, hidden, cycles)
     if draws.chance(0.5) or not hidden:
         for _ in range(1 + draws.below(12)):
@@ -101,11 +117,11 @@ def merged(draws, base, other, cycles):
     return words
 
 
-def pair_of(draws, policy, seen_by):
-    """Two traces that agree for a class."""
+def pair_of(draws, policy, members):
+    """Two traces that agree for a set."""
     epoch = policy.epoch * policy.turn
     cycles = max(EPOCHS * epoch, LEAST_CYCLES) + draws.below(epoch + 1)
-    flowing = [number for number in range(policy.classes) if policy.flows(number, seen_by)]
+    flowing = policy.flowing(members)
     hidden = [number for number in range(policy.classes) if number not in flowing]
     base = offers_of(draws, policy, flowing, cycles)
     return [merged(draws, base, filling(draws, policy, hidden, cycles), cycles) for _ in range(2)]
@@ -118,7 +134,7 @@ def ticks_shown(ran):
 
 @dataclass
 class Figures:
-    """What a search over pairs found for a class."""
+    """What a search over pairs found for a set."""
 
     pairs: int = 0
     trace_numbers: int = 0
@@ -129,7 +145,7 @@ class Figures:
     first: list = None
 
     def count(self, number, sides, names):
-        """Counts a pair, of which the two sides are given as the class sees them."""
+        """Counts a pair, of which the two sides are given as the set sees them."""
         one, other = sides
         self.pairs += 1
         self.trace_numbers += len(one.ran.trace) + len(other.ran.trace)
@@ -141,14 +157,14 @@ class Figures:
             self.first = self.first or ["pair %d" % number, *difference_words(sides, place, names)]
 
 
-def searched(library, policy_bytes, names, classes, pairs, seed, done=lambda number: None):
-    """The figures of each class, over pairs that take the classes one after the other. The policy is one that is taken."""
+def searched(library, policy_bytes, names, sets, pairs, seed, done=lambda number: None):
+    """The figures of each set, small ones first, over pairs that take the sets one after the other. The policy is one that is taken."""
     policy = policy_of(policy_bytes)
-    figures = {number: Figures() for number in classes[:pairs]}
+    figures = {members: Figures() for members in sorted(set(sets[:pairs]), key=lambda members: (len(members), members))}
     for number in range(pairs):
-        seen_by = classes[number % len(classes)]
-        traces = pair_of(Draws("blind", seed, number), policy, seen_by)
+        members = sets[number % len(sets)]
+        traces = pair_of(Draws("blind", seed, number), policy, members)
         runs = [run_folder(library, Folder(Path(label), policy_bytes, trace, 0, names)) for label, trace in zip(("the first trace", "the second trace"), traces)]
-        figures[seen_by].count(number + 1, [seen_of(library, ran, seen_by) for ran in runs], names)
+        figures[members].count(number + 1, [seen_of(library, ran, members) for ran in runs], names)
         done(number + 1)
     return figures

@@ -99,9 +99,10 @@ def run_folder(library, folder):
     return Ran(folder, policy_of(folder.policy_bytes), log)
 
 
-def extract_of(library, ran, number):
-    """The numbers that a class may see of a run's log, by the proved extract."""
-    status, out = library.extract(ran.folder.policy_bytes, number, ran.trace, ran.log)
+def extract_of(library, ran, members):
+    """The numbers that a set of classes may see of a run's log, by the proved extract. One class is asked for as such, which a library of before W-211 answers as well."""
+    extract, whose = (library.extract, *members) if len(members) == 1 else (library.extract_set, members)
+    status, out = extract(ran.folder.policy_bytes, whose, ran.trace, ran.log)
     if status != 0:
         raise Refused("extract refused %d: %s" % (status, REFUSALS[status].when))
     return out

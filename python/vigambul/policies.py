@@ -65,6 +65,10 @@ class Policy:
         """The classes that class i is kept apart from: neither may flow to the other."""
         return [j for j in range(self.classes) if not self.flows(i, j) and not self.flows(j, i)]
 
+    def flowing(self, members):
+        """The classes that may flow to at least one of a set; none for the empty set (W-211)."""
+        return [i for i in range(self.classes) if any(self.flows(i, j) for j in members)]
+
     def covers(self, i):
         """The classes directly above class i. Document 01: its children."""
         above = self.above(i)

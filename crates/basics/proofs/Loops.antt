@@ -13,7 +13,7 @@ use lib.ListN.{length, getD, set, replicate, length-set, length-replicate}
 use lib.Seq.{ext-getD, getD-set-same, getD-set-other}
 use Rattle.basics.specs.Below.{every, some, first, sum, listOf}
 use Rattle.basics.proofs.Truth.{not-true, not-not}
-use Rattle.basics.proofs.Below.{at-or-below, every-none, every-more, every-fails, some-none, some-more, first-is, first-none, sum-none, sum-more, length-listOf, getD-listOf}
+use Rattle.basics.proofs.Below.{at-or-below, every-none, every-more, every-fails, some-none, some-more, some-at, first-is, first-none, sum-none, sum-more, length-listOf, getD-listOf}
 
 -- the bound is reached
 at-end : {n i : ℕ} → i ≤ n → n ≤ i → i ≡ n
@@ -63,6 +63,13 @@ module _ (f : ℕ → Bool) (n : ℕ) where
 
   pub found-at : (i : ℕ) → Missed i → i < n → f i ≡ true → i ≡ first n f
   found-at i h l t = sym (first-is f n i l (h .0) t)
+
+  -- the same where it is asked whether one passes
+  pub none-passes : (i : ℕ) → Missed i → n ≤ i → false ≡ some n f
+  none-passes i h l = sym (subst (λ (k : ℕ). some k f ≡ false) (at-end (h .1) l) (h .0))
+
+  pub one-passes : (i : ℕ) → i < n → f i ≡ true → true ≡ some n f
+  one-passes i l t = sym (some-at f n i l t)
 
 -- ---- a loop that adds up
 

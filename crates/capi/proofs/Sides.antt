@@ -10,9 +10,9 @@ use Rattle.policy.specs.Policy.{boundFor}
 use Rattle.policy.specs.declared.Policy.{Policy}
 use Rattle.state.specs.Fresh.{fresh}
 use Rattle.rules.specs.Run.{run, logAfter}
-use Rattle.extract.specs.Extract.{extract, outAfter}
+use Rattle.extract.specs.declared.Extracted.{Extracted}
 use Rattle.capi.specs.Runs.{runStatus, runLog}
-use Rattle.capi.specs.Extracts.{fileExtractStatus, fileExtractCount, fileExtractOut}
+use Rattle.capi.specs.Extracts.{statusBy, countBy, outBy}
 use Rattle.capi.specs.Bounds.{fileBoundStatus, fileBound}
 
 module _ (file trace log : List ℕ) where
@@ -34,23 +34,23 @@ module _ (file trace log : List ℕ) where
   unfolding runStatus runLog
   taken none = (ap status (eq-eqb _ 0 none), ap logged (eq-eqb _ 0 none))
 
-module _ (file : List ℕ) (l : ℕ) (trace log out : List ℕ) where
+module _ (file : List ℕ) (call : Policy → Extracted) (after : Policy → List ℕ) (out : List ℕ) where
   -- the status, the count and the numbers of an extract, by whether the file is taken
   abbrev status-seen : Bool → ℕ
-  status-seen b = cond b (extract (readFile file .policy) l trace log out .status) (readFile file .status)
+  status-seen b = cond b (call (readFile file .policy) .status) (readFile file .status)
 
   abbrev count-seen : Bool → ℕ
-  count-seen b = cond b (extract (readFile file .policy) l trace log out .count) 0
+  count-seen b = cond b (call (readFile file .policy) .count) 0
 
   abbrev out-seen : Bool → List ℕ
-  out-seen b = cond b (outAfter (readFile file .policy) l trace log out) out
+  out-seen b = cond b (after (readFile file .policy)) out
 
-  pub refused-extract : (readFile file .status ≡ 0 → ⊥) → (fileExtractStatus file l trace log out ≡ readFile file .status) × (fileExtractCount file l trace log out ≡ 0) × (fileExtractOut file l trace log out ≡ out)
-  unfolding fileExtractStatus fileExtractCount fileExtractOut
+  pub refused-extract : (readFile file .status ≡ 0 → ⊥) → (statusBy file call ≡ readFile file .status) × (countBy file call ≡ 0) × (outBy file after out ≡ out)
+  unfolding statusBy countBy outBy
   refused-extract some = let e = ne-eqb _ 0 some in (ap status-seen e, ap count-seen e, ap out-seen e)
 
-  pub taken-extract : readFile file .status ≡ 0 → (fileExtractStatus file l trace log out ≡ extract (readFile file .policy) l trace log out .status) × (fileExtractCount file l trace log out ≡ extract (readFile file .policy) l trace log out .count) × (fileExtractOut file l trace log out ≡ outAfter (readFile file .policy) l trace log out)
-  unfolding fileExtractStatus fileExtractCount fileExtractOut
+  pub taken-extract : readFile file .status ≡ 0 → (statusBy file call ≡ call (readFile file .policy) .status) × (countBy file call ≡ call (readFile file .policy) .count) × (outBy file after out ≡ after (readFile file .policy))
+  unfolding statusBy countBy outBy
   taken-extract none = let e = eq-eqb _ 0 none in (ap status-seen e, ap count-seen e, ap out-seen e)
 
 module _ (file : List ℕ) (c : ℕ) where

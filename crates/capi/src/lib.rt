@@ -2,7 +2,7 @@
 
 ghost use mathlib.Core.Path.{_≡_};
 ghost use Rattle.capi.specs.Runs.{runStatus, runLog};
-ghost use Rattle.capi.specs.Extracts.{fileExtractStatus, fileExtractCount, fileExtractOut};
+ghost use Rattle.capi.specs.Extracts.{fileExtractStatus, fileExtractCount, fileExtractOut, fileSetStatus, fileSetCount, fileSetOut};
 ghost use Rattle.capi.specs.Bounds.{fileBoundStatus, fileBound};
 
 // Reads a policy file's bytes, makes its fresh state and runs a trace from it into a log. Answers 0, or 1 to 8 for the file, or 15 for a log that is too short; then
@@ -47,6 +47,31 @@ pub extern "C" fn vigambul_extract(
     let extracted = extract::extract(p, class, trace, log, out);
     *status = extracted.status;
     extracted.count
+}
+
+// W-211: the same for a set of classes, bit c of `set` for class c: what may flow to at least one of them is kept. 9 is for a bit that stands for none of the policy's classes.
+#[no_mangle]
+pub extern "C" fn vigambul_extract_set(
+    file: &[u8],
+    set: u32,
+    trace: &[u32],
+    log: &[u32],
+    out: &mut [u32],
+    status: &mut u32,
+) -> usize
+    ensures { λ r. ⌜ r ≡ fileSetCount (now (file .entry)) set (now (trace .entry)) (now (log .entry)) (now (out .entry)) ⌝ }
+    ensures { λ r. ⌜ now (status .exit) ≡ fileSetStatus (now (file .entry)) set (now (trace .entry)) (now (log .entry)) (now (out .entry)) ⌝ }
+    ensures { λ r. ⌜ now (out .exit) ≡ fileSetOut (now (file .entry)) set (now (trace .entry)) (now (log .entry)) (now (out .entry)) ⌝ }
+{
+    let reading = file::read(file);
+    if reading.status != 0 {
+        *status = reading.status;
+        return 0;
+    }
+    let p = reading.policy;
+    let together = extract::extract_set(p, set, trace, log, out);
+    *status = together.status;
+    together.count
 }
 
 // Reads a policy file's bytes, and answers how many classes a walk that starts at a class tries at most, the class counted: the number of classes on the longest rising chain

@@ -4,6 +4,7 @@ use super::Case;
 use super::least;
 use super::number_at;
 use super::words;
+use extract::Extracted;
 use policy::Policy;
 use script::Line;
 use script::List;
@@ -32,15 +33,28 @@ fn first(list: &[u32; 160], count: usize) -> &[u32] {
     front(all, count)
 }
 
+// Whom an extract is for: a class, or a set of classes with bit c for class c.
+pub(crate) enum Whose {
+    Class(u32),
+    Set(u32),
+}
+
+fn asked(p: Policy, whose: Whose, trace: &[u32], log: &[u32], out: &mut [u32]) -> Extracted {
+    match whose {
+        Whose::Class(class) => extract::extract(p, class, trace, log, out),
+        Whose::Set(set) => extract::extract_set(p, set, trace, log, out),
+    }
+}
+
 // An extract with room for 160 numbers or less.
-fn extract_of(p: Policy, class: u32, trace: List, log: List, room: usize) -> Extract {
+fn extract_of(p: Policy, whose: Whose, trace: List, log: List, room: usize) -> Extract {
     let numbers = trace.at;
     let logged = log.at;
     let mut out = [MARKER; 160];
     let most = least(room, 160);
-    let made = extract::extract(
+    let made = asked(
         p,
-        class,
+        whose,
         first(&numbers, trace.count),
         first(&logged, log.count),
         &mut out[0..most],
@@ -72,14 +86,15 @@ fn print(list: List) {
     }
 }
 
-// An extract for a class of as many numbers of the trace and of the log, with room for as many, and the whole slice on its line: CLASS TRACE LOG ROOM.
-pub(crate) fn sized(c: Case) {
+// An extract for a class or a set, the first of the case's own numbers, of as many numbers of the trace and of the log, with room for as many, and the whole slice on its line:
+// CLASS TRACE LOG ROOM.
+pub(crate) fn sized(c: Case, whose: Whose) {
     let mut trace = c.trace;
     trace.count = number_at(c.own, 1) as usize;
     let mut log = c.log;
     log.count = number_at(c.own, 2) as usize;
     let room = number_at(c.own, 3) as usize;
-    let made = extract_of(c.policy, number_at(c.own, 0), trace, log, room);
+    let made = extract_of(c.policy, whose, trace, log, room);
     answered(made);
     words(b", out");
     print(made.out);
@@ -99,9 +114,9 @@ fn cell(text: &[u8], l: Line, c: Case, at: usize, value: u32) {
     }
 }
 
-// What a class may see of a log, by lines: CLASS.
-pub(crate) fn seen(text: &[u8], l: Line, c: Case, log: List) {
-    let made = extract_of(c.policy, number_at(c.own, 0), c.trace, log, log.count);
+// What a class or a set may see of a log, by lines: CLASS.
+pub(crate) fn seen(text: &[u8], l: Line, c: Case, whose: Whose, log: List) {
+    let made = extract_of(c.policy, whose, c.trace, log, log.count);
     let out = made.out;
     answered(made);
     words(b"\n");
@@ -113,7 +128,7 @@ pub(crate) fn seen(text: &[u8], l: Line, c: Case, log: List) {
 }
 
 // The same of the log of a run from a fresh state.
-pub(crate) fn seen_of_run(text: &[u8], l: Line, c: Case) {
+pub(crate) fn seen_of_run(text: &[u8], l: Line, c: Case, whose: Whose) {
     let fresh = state::fresh(c.policy);
     let trace = c.trace;
     let numbers = trace.at;
@@ -128,5 +143,5 @@ pub(crate) fn seen_of_run(text: &[u8], l: Line, c: Case) {
         at: log,
         count: 160,
     };
-    seen(text, l, c, list);
+    seen(text, l, c, whose, list);
 }

@@ -3,6 +3,7 @@
 // output, and the Rust model's tests hold the stored output against the model's own answers.
 
 ghost use Prim.Native.Nat.{_≤_};
+use extracts::Whose;
 use libc::STDIN_FILENO;
 use libc::STDOUT_FILENO;
 use policy::Policy;
@@ -40,7 +41,7 @@ pub(crate) fn number_at(list: List, index: usize) -> u32 {
 // Where the changes of the policy stand among a case's own numbers, by its letter.
 fn changes_from(letter: u8) -> usize {
     match letter {
-        b'x' => 4,
+        b'x' | b's' => 4,
         b'l' => 1,
         _ => 0,
     }
@@ -63,15 +64,19 @@ fn laid_out(text: &[u8], l: Line) -> Case {
 
 fn answer(text: &[u8], l: Line, c: Case) {
     let letter = l.letter;
+    let first = number_at(c.own, 0);
     match letter {
         b'r' => policies::read(c.file),
         b'w' => policies::with(c),
         b'c' => policies::cut(c),
         b'i' => policies::in_range(c),
         b'l' => policies::longest(c),
-        b'x' => extracts::sized(c),
-        b'g' => extracts::seen(text, l, c, c.log),
-        b'm' => extracts::seen_of_run(text, l, c),
+        b'x' => extracts::sized(c, Whose::Class(first)),
+        b'g' => extracts::seen(text, l, c, Whose::Class(first), c.log),
+        b'm' => extracts::seen_of_run(text, l, c, Whose::Class(first)),
+        b's' => extracts::sized(c, Whose::Set(first)),
+        b'k' => extracts::seen(text, l, c, Whose::Set(first), c.log),
+        b'n' => extracts::seen_of_run(text, l, c, Whose::Set(first)),
         b'a' => sets::alone(c),
         b'b' => sets::below(c),
         _ => {}

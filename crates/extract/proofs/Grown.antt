@@ -24,7 +24,7 @@ use Rattle.extract.specs.Extract.{hideWord, hideTurn, lineSeen, lineSeen
 use Rattle.basics.proofs.Stores.{written-more}
 
 -- a number other than 0 is an offer or malformed
-no-tick : (w : ℕ) → ((w ≡ 0) → ⊥) → (callOf w ≡ Offer (requestOf w)) ⊎ (callOf w ≡ Malformed)
+pub no-tick : (w : ℕ) → ((w ≡ 0) → ⊥) → (callOf w ≡ Offer (requestOf w)) ⊎ (callOf w ≡ Malformed)
 no-tick w some =
     let other = ne-eqb w 0 some in
     ⊎-elim (λ t. inl (told-offer w other t)) (λ t. inr (told-malformed w other t)) (either (isOffer w))
@@ -136,12 +136,12 @@ module _ (seen : ℕ → Bool) where
       ∙ ap (λ (l : List ℕ). extractOf seen xs (drop 4 log) ++ extractOf seen ys l) (drop-drop (4 * length xs) 4 log ∙ ap (λ (n : ℕ). drop n log) place))
       ∙ sym (append-assoc line (extractOf seen xs (drop 4 log)) (extractOf seen ys (drop (4 * suc (length xs)) log)))
 
-  -- a line is the first of what stands from there on
-  line-there : (w : ℕ) (log : List ℕ) (from : ℕ) → lineSeenAt seen w (drop from log) 0 ≡ lineSeenAt seen w log from
+  -- a line of what stands from n on
+  pub line-past : (w : ℕ) (log : List ℕ) (n from : ℕ) → lineSeenAt seen w (drop n log) from ≡ lineSeenAt seen w log (n + from)
   unfolding lineSeenAt
-  line-there w log from =
-      let zeroth : getD (drop from log) 0 0 ≡ getD log from 0 = getD-drop from log 0 0 ∙ ap (λ (n : ℕ). getD log n 0) (omega arith) in
-      rw (zeroth, getD-drop from log 1 0, getD-drop from log 2 0, getD-drop from log 3 0)
+  line-past w log n from =
+      let at : (k : ℕ) → getD (drop n log) (from + k) 0 ≡ getD log (n + from + k) 0 = λ k. getD-drop n log (from + k) 0 ∙ ap (λ (i : ℕ). getD log i 0) (omega arith) in
+      rw (getD-drop n log from 0, at 1, at 2, at 3)
 
   -- one more call
   extract-more : (trace log : List ℕ) (i : ℕ) → i < length trace → extractOf seen (take (i + 1) trace) log ≡ extractOf seen (take i trace) log ++ lineSeenAt seen (getD trace i 0) log (4 * i)
@@ -155,7 +155,8 @@ module _ (seen : ℕ → Bool) where
       ∙ ap (λ (l : List ℕ). extractOf seen (take i trace) log ++ l)
       (append-nil (lineSeenAt seen w (drop (4 * length (take i trace)) log) 0)
       ∙ ap (λ (n : ℕ). lineSeenAt seen w (drop (4 * n) log) 0) size
-      ∙ line-there w log (4 * i)))
+      ∙ line-past w log (4 * i) 0
+      ∙ ap (lineSeenAt seen w log) (omega arith)))
 
   -- the extract of the first calls is no longer than the whole
   extract-part : (trace log : List ℕ) (n : ℕ) → length (extractOf seen (take n trace) log) ≤ length (extractOf seen trace log)

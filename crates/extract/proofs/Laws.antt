@@ -19,7 +19,7 @@ use Rattle.extract.proofs.Grown.{four-left, none-left, purge-yes, purge
 
 module _ (seen : ℕ → Bool) where
   -- what stands behind the four numbers of a line does not matter to it
-  own-line : (w : ℕ) (ls ms : List ℕ) → 3 < length ls → lineSeenAt seen w (ls ++ ms) 0 ≡ lineSeenAt seen w ls 0
+  pub own-line : (w : ℕ) (ls ms : List ℕ) → 3 < length ls → lineSeenAt seen w (ls ++ ms) 0 ≡ lineSeenAt seen w ls 0
   unfolding lineSeenAt
   own-line w ls ms h =
       rw (List·getD-append ls ms 0 0 (omega arith), List·getD-append ls ms 0 1 (omega arith), List·getD-append ls ms 0 2 (omega arith), List·getD-append ls ms 0 3 h)

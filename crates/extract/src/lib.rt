@@ -1,4 +1,4 @@
-// The extract: what of a log may be seen by a class.
+// The extract: what of a log may be seen by a class, or by a set of classes (W-211).
 
 ghost use mathlib.Core.Path.{_≡_};
 ghost use mathlib.Core.Bool.{true};
@@ -9,8 +9,8 @@ ghost use lib.Seq.{sets};
 ghost use Rattle.basics.specs.Below.{setOf};
 ghost use Rattle.masks.specs.Mask.{member};
 ghost use Rattle.requests.specs.Trace.{callOf};
-ghost use Rattle.extract.specs.Seen.{seenBy, stays, staying};
-ghost use Rattle.extract.specs.Extract.{hideWord, hideTurn, lineSeen, lineSeenAt, extractOf, extract, outAfter};
+ghost use Rattle.extract.specs.Seen.{seenByAny, stays, staying};
+ghost use Rattle.extract.specs.Extract.{areClasses, hideWord, hideTurn, lineSeen, lineSeenAt, extractOf, seenAnswer, seenOut, extract, outAfter, extractSet, outAfterSet};
 use policy::Policy;
 use requests::Call;
 use requests::words;
@@ -21,14 +21,53 @@ pub struct Extracted {
     pub count: usize,
 }
 
-// The classes that may flow to a class, as a set.
-fn seen_by(p: Policy, class: usize) -> u16
-    ensures { λ r. ⌜ r ≡ setOf 16 (seenBy p class) ⌝ }
+// Whether the class is in a set of 32 bits, bit c for class c. A number above 31 is in none.
+fn in_set(set: u32, class: usize) -> bool
+    ensures { λ r. ⌜ r ≡ member set class ⌝ }
+{
+    if class < 32 {
+        (set >> class) % 2 == 1
+    } else {
+        false
+    }
+}
+
+// Whether every member of the set is a class of the policy.
+fn are_classes(p: Policy, set: u32) -> bool
+    ensures { λ r. ⌜ r ≡ areClasses p set ⌝ }
+{
+    let mut c = 0;
+    while c < 32 {
+        if in_set(set, c) & !order::is_class(p.classes, c) {
+            return false;
+        }
+        c += 1;
+    }
+    true
+}
+
+// Whether a class may flow to a member of the set.
+fn flows_to_any(p: Policy, class: usize, set: u32) -> bool
+    ensures { λ r. ⌜ r ≡ seenByAny p set class ⌝ }
+{
+    let mut l = 0;
+    while l < 16 {
+        if in_set(set, l) & policy::flows(p, class, l) {
+            return true;
+        }
+        l += 1;
+    }
+    false
+}
+
+// The classes that may flow to a member of the set, as a set.
+fn seen_by(p: Policy, set: u32) -> u16
+    ensures { λ r. ⌜ r ≡ setOf 16 (seenByAny p set) ⌝ }
 {
     let mut seen = 0u16;
     let mut c = 0;
     while c < 16 {
-        if policy::flows(p, c, class) {
+        if flows_to_any(p, c, set) {
             seen += masks::class_mask(c);
         }
         c += 1;
@@ -166,11 +205,18 @@ fn write(seen: u16, trace: &[u32], log: &[u32], out: &mut [u32])
     }
 }
 
-// Writes what class `class` may see of the log of a trace to the start of `out`, and answers how many numbers that is. Of a log that no run wrote, which document 01 leaves
-// open, each number is kept or hidden by its place and by the class that its bits name, whatever else it holds.
-pub fn extract(p: Policy, class: u32, trace: &[u32], log: &[u32], out: &mut [u32]) -> Extracted
-    ensures { λ r. ⌜ r ≡ extract p class (now (trace .entry)) (now (log .entry)) (now (out .entry)) ⌝ }
-    ensures { λ r. ⌜ now (out .exit) ≡ outAfter p class (now (trace .entry)) (now (log .entry)) (now (out .entry)) ⌝ }
+// Writes what is left of the log of a trace, where the classes in `seen` may be seen, to the start of `out`, and answers how many numbers that is; or what refuses it, in document
+// 01's order. `named` says whether it was asked for classes of the policy.
+fn extract_seen(
+    p: Policy,
+    named: bool,
+    seen: u16,
+    trace: &[u32],
+    log: &[u32],
+    out: &mut [u32],
+) -> Extracted
+    ensures { λ r. ⌜ r ≡ seenAnswer p named (member seen) (now (trace .entry)) (now (log .entry)) (now (out .entry)) ⌝ }
+    ensures { λ r. ⌜ now (out .exit) ≡ seenOut p named (member seen) (now (trace .entry)) (now (log .entry)) (now (out .entry)) ⌝ }
 {
     if !policy::in_range(p) {
         return Extracted {
@@ -178,7 +224,7 @@ pub fn extract(p: Policy, class: u32, trace: &[u32], log: &[u32], out: &mut [u32
             count: 0,
         };
     }
-    if !order::is_class(p.classes, class as usize) {
+    if !named {
         return Extracted {
             status: 9,
             count: 0,
@@ -190,7 +236,6 @@ pub fn extract(p: Policy, class: u32, trace: &[u32], log: &[u32], out: &mut [u32
             count: 0,
         };
     }
-    let seen = seen_by(p, class as usize);
     let count = 4 * kept(seen, trace);
     if out.len() < count {
         return Extracted {
@@ -200,4 +245,25 @@ pub fn extract(p: Policy, class: u32, trace: &[u32], log: &[u32], out: &mut [u32
     }
     write(seen, trace, log, out);
     Extracted { status: 0, count }
+}
+
+// Writes what class `class` may see of the log of a trace to the start of `out`, and answers how many numbers that is. Of a log that no run wrote, which document 01 leaves
+// open, each number is kept or hidden by its place and by the class that its bits name, whatever else it holds.
+pub fn extract(p: Policy, class: u32, trace: &[u32], log: &[u32], out: &mut [u32]) -> Extracted
+    ensures { λ r. ⌜ r ≡ extract p class (now (trace .entry)) (now (log .entry)) (now (out .entry)) ⌝ }
+    ensures { λ r. ⌜ now (out .exit) ≡ outAfter p class (now (trace .entry)) (now (log .entry)) (now (out .entry)) ⌝ }
+{
+    let named = order::is_class(p.classes, class as usize);
+    let seen = seen_by(p, masks::class_mask(class as usize) as u32);
+    extract_seen(p, named, seen, trace, log, out)
+}
+
+// W-211: the same for a set of classes, bit c of `set` for class c: what may flow to at least one of them is kept.
+pub fn extract_set(p: Policy, set: u32, trace: &[u32], log: &[u32], out: &mut [u32]) -> Extracted
+    ensures { λ r. ⌜ r ≡ extractSet p set (now (trace .entry)) (now (log .entry)) (now (out .entry)) ⌝ }
+    ensures { λ r. ⌜ now (out .exit) ≡ outAfterSet p set (now (trace .entry)) (now (log .entry)) (now (out .entry)) ⌝ }
+{
+    let named = are_classes(p, set);
+    let seen = seen_by(p, set);
+    extract_seen(p, named, seen, trace, log, out)
 }

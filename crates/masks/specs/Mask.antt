@@ -1,4 +1,4 @@
--- Sets of classes as 16-bit numbers, bit i for class i, as in a row of the order.
+-- Sets of classes as 16-bit numbers, bit i for class i, as in a row of the order. (`member` is of a number of any length: the sets of W-211 have 32 bits.)
 use mathlib.Core.Bool.{Bool, cond, not, _&&_, _||_}
 use Prim.Native.Nat.{ℕ, _+_, _-_, _/_, _%_, _^_, min}
 use lib.Dec.{ltb, eqb}

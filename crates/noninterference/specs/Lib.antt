@@ -2,3 +2,5 @@
 
 -- the claim, which stands alone
 pub mod Claim
+-- W-211: the same for a set of classes
+pub mod SetClaim

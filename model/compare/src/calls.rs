@@ -1,23 +1,54 @@
 //! The calls of the library for C, of the library itself or of something in its
 //! place: so the tests can show that they find what is wrong.
 
-use vigambul_model::extract::extract_planted;
+use std::fmt::{self, Display, Formatter};
+
+use vigambul_model::class_set::ClassSet;
+use vigambul_model::extract::extract_set_planted;
 use vigambul_model::planted::Planted;
 use vigambul_model::trace::run_planted;
 use vigambul_model::{policy, refusal, state};
 
 use crate::library;
 
+/// Whom an extract is for. The library has a function for each.
+#[derive(Clone, Copy, Debug, PartialEq, Eq)]
+pub enum Viewer {
+    /// A class by its number, which may be any.
+    Class(u32),
+    /// A set of classes, class c in bit c.
+    Set(u32),
+}
+
+impl Viewer {
+    /// The set that the model is asked for.
+    pub fn classes(self) -> ClassSet {
+        match self {
+            Viewer::Class(class) => ClassSet::of(class as usize),
+            Viewer::Set(classes) => ClassSet(classes),
+        }
+    }
+}
+
+impl Display for Viewer {
+    fn fmt(&self, formatter: &mut Formatter) -> fmt::Result {
+        match self {
+            Viewer::Class(class) => write!(formatter, "class {class}"),
+            Viewer::Set(_) => write!(formatter, "the set {}", self.classes()),
+        }
+    }
+}
+
 /// What the library for C does.
 pub trait Calls {
     /// The run of a trace from the fresh state of a policy file: the status.
     fn run(&self, policy: &[u8], trace: &[u32], log: &mut [u32]) -> u32;
 
-    /// The extract of a trace's log for a class: the count and the status.
+    /// The extract of a trace's log for a class or a set of classes: the count and the status.
     fn extract(
         &self,
         policy: &[u8],
-        class: u32,
+        viewer: Viewer,
         trace: &[u32],
         log: &[u32],
         out: &mut [u32],
@@ -35,12 +66,15 @@ impl Calls for Library {
     fn extract(
         &self,
         policy: &[u8],
-        class: u32,
+        viewer: Viewer,
         trace: &[u32],
         log: &[u32],
         out: &mut [u32],
     ) -> (usize, u32) {
-        library::extract(policy, class, trace, log, out)
+        match viewer {
+            Viewer::Class(class) => library::extract(policy, class, trace, log, out),
+            Viewer::Set(classes) => library::extract_set(policy, classes, trace, log, out),
+        }
     }
 }
 
@@ -60,7 +94,7 @@ impl Calls for Model {
     fn extract(
         &self,
         policy: &[u8],
-        class: u32,
+        viewer: Viewer,
         trace: &[u32],
         log: &[u32],
         out: &mut [u32],
@@ -69,8 +103,8 @@ impl Calls for Model {
         if let Some(refusal) = refusal {
             return (0, refusal.number());
         }
-        let class = class as usize;
-        let outcome = extract_planted(&policy, class, trace, log, out, self.0);
+        let classes = viewer.classes();
+        let outcome = extract_set_planted(&policy, classes, trace, log, out, self.0);
         (outcome.unwrap_or(0), refusal::status(&outcome))
     }
 }

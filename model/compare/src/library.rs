@@ -27,6 +27,19 @@ extern "C" {
         status: *mut u32,
     ) -> usize;
 
+    fn vigambul_extract_set(
+        policy: *const u8,
+        policy_len: usize,
+        classes: u32,
+        trace: *const u32,
+        trace_len: usize,
+        log: *const u32,
+        log_len: usize,
+        out: *mut u32,
+        out_len: usize,
+        status: *mut u32,
+    ) -> usize;
+
     fn vigambul_walk_bound(
         policy: *const u8,
         policy_len: usize,
@@ -67,15 +80,51 @@ pub fn extract(
     log: &[u32],
     out: &mut [u32],
 ) -> (usize, u32) {
+    extract_by(vigambul_extract, policy, class, trace, log, out)
+}
+
+/// The same of what may be seen by at least one class of a set, class c in bit c.
+pub fn extract_set(
+    policy: &[u8],
+    classes: u32,
+    trace: &[u32],
+    log: &[u32],
+    out: &mut [u32],
+) -> (usize, u32) {
+    extract_by(vigambul_extract_set, policy, classes, trace, log, out)
+}
+
+/// A call that extracts for a class or for a set of classes.
+type Extract = unsafe extern "C" fn(
+    *const u8,
+    usize,
+    u32,
+    *const u32,
+    usize,
+    *const u32,
+    usize,
+    *mut u32,
+    usize,
+    *mut u32,
+) -> usize;
+
+fn extract_by(
+    call: Extract,
+    policy: &[u8],
+    number: u32,
+    trace: &[u32],
+    log: &[u32],
+    out: &mut [u32],
+) -> (usize, u32) {
     let mut status = NO_STATUS;
     // SAFETY: each pointer and length is that of a slice which lives for the
     // whole call, as does the status; only the status and `out`, which is lent
     // for writing, are written.
     let count = unsafe {
-        vigambul_extract(
+        call(
             policy.as_ptr(),
             policy.len(),
-            class,
+            number,
             trace.as_ptr(),
             trace.len(),
             log.as_ptr(),

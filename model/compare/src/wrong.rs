@@ -7,7 +7,7 @@ use vigambul_model::policy::{self, Policy};
 use vigambul_model::refusal::Refusal;
 use vigambul_model::trace::{class_bits, Word, COLUMN_BIT, ELIDED, LINE, OFFER_BIT, TRIED_BITS};
 
-use crate::calls::{Calls, Model};
+use crate::calls::{Calls, Model, Viewer};
 
 /// Where an extract departs from document 01.
 #[derive(Clone, Copy, Debug, PartialEq, Eq)]
@@ -62,7 +62,55 @@ pub enum Wrong {
     AsksLogBeforeClass,
     AsksRoomBeforeLog,
     AsksClassBeforeFile,
+
+    // W-211's, which are for extracts for sets. Those that leak.
+    /// Kept is what may flow to every member: to the empty set, everything.
+    KeepsForEveryMember,
+    /// The least class is kept, whatever the set. It may flow to every class, so that this is
+    /// wrong for the empty set alone.
+    KeepsTheLeastClass,
+    TakesTheEmptySetForAll,
+    /// The rows of the members are intersected: seen is what all of them may flow to.
+    SeesClassesAboveAll,
+
+    // Those that hide too much, or refuse wrongly.
+    /// Kept is what may flow to every member, if there is one.
+    KeepsForEveryMemberOfSome,
+    SeesByTheLowestMember,
+    SeesByTheHighestMember,
+    /// Kept is what is a member's own.
+    SeesMembersAlone,
+    /// 9 is asked of no bit.
+    IgnoresMissingClasses,
+    /// The set is cut to 16 bits.
+    IgnoresBitsAbove15,
+    /// 9 is asked of bits above n.
+    IgnoresBitN,
+    /// 9 for the empty set.
+    RefusesTheEmptySet,
+    AsksRoomBeforeClass,
 }
+
+/// Wrong extracts for sets of classes that leak what may flow to no member.
+pub const LEAKS_OF_SETS: [Wrong; 4] = [
+    Wrong::KeepsForEveryMember,
+    Wrong::KeepsTheLeastClass,
+    Wrong::TakesTheEmptySetForAll,
+    Wrong::SeesClassesAboveAll,
+];
+
+/// Wrong extracts for sets of classes that only a comparison with right ones finds.
+pub const OTHERS_OF_SETS: [Wrong; 9] = [
+    Wrong::KeepsForEveryMemberOfSome,
+    Wrong::SeesByTheLowestMember,
+    Wrong::SeesByTheHighestMember,
+    Wrong::SeesMembersAlone,
+    Wrong::IgnoresMissingClasses,
+    Wrong::IgnoresBitsAbove15,
+    Wrong::IgnoresBitN,
+    Wrong::RefusesTheEmptySet,
+    Wrong::AsksRoomBeforeClass,
+];
 
 /// Wrong extracts that leak what may not flow to L.
 pub const LEAKS: [Wrong; 11] = [
@@ -118,20 +166,13 @@ impl Calls for WithWrongExtract {
     fn extract(
         &self,
         policy: &[u8],
-        class: u32,
+        viewer: Viewer,
         trace: &[u32],
         log: &[u32],
         out: &mut [u32],
     ) -> (usize, u32) {
         let (policy, refusal) = policy::read(policy);
-        let view = View {
-            policy: &policy,
-            class: match self.0 {
-                Wrong::TakesClassesByTheirLowByte => class as usize & 0xFF,
-                _ => class as usize,
-            },
-            wrong: self.0,
-        };
+        let view = View::new(&policy, viewer, self.0);
         let kept = view.kept(trace, log);
         if let Some(refusal) = view.refused(refusal, trace, log, kept.len(), out.len()) {
             if self.0 == Wrong::WritesBeforeItRefuses && refusal == Refusal::ExtractTooShort {
@@ -154,14 +195,40 @@ impl Calls for WithWrongExtract {
     }
 }
 
-/// What one class sees, wrongly.
+/// What a class or a set of classes sees, wrongly.
 struct View<'a> {
     policy: &'a Policy,
-    class: usize,
+    /// The class, or the members of the set, by rising number; those that 9 refuses too.
+    members: Vec<usize>,
     wrong: Wrong,
 }
 
-impl View<'_> {
+impl<'a> View<'a> {
+    fn new(policy: &'a Policy, viewer: Viewer, wrong: Wrong) -> View<'a> {
+        let n = policy.class_count();
+        let members = match viewer {
+            Viewer::Class(class) if wrong == Wrong::TakesClassesByTheirLowByte => {
+                vec![class as usize & 0xFF]
+            }
+            Viewer::Class(class) => vec![class as usize],
+            Viewer::Set(classes) => {
+                let members = (0..32).filter(|&class| classes >> class & 1 == 1);
+                let taken = members.filter(|&class| match wrong {
+                    Wrong::IgnoresMissingClasses => class < n,
+                    Wrong::IgnoresBitsAbove15 => class < 16,
+                    Wrong::IgnoresBitN => class != n,
+                    _ => true,
+                });
+                taken.collect()
+            }
+        };
+        View {
+            policy,
+            members,
+            wrong,
+        }
+    }
+
     fn is(&self, wrong: Wrong) -> bool {
         self.wrong == wrong
     }
@@ -184,16 +251,19 @@ impl View<'_> {
             Wrong::AsksRoomForAll => log.len(),
             _ => kept,
         };
-        let no_class = self.class >= self.policy.class_count();
+        let mut members = self.members.iter();
+        let no_class = members.any(|&member| member >= self.policy.class_count())
+            || self.members.is_empty() && self.is(Wrong::RefusesTheEmptySet);
         let class = no_class.then_some(Refusal::Class);
         let log = wrong_log.then_some(Refusal::LogNotOfTrace);
         let extract = (room < needed_room).then_some(Refusal::ExtractTooShort);
         match self.wrong {
             // A refused file leaves no class: 9 would meet all of them, and is
             // asked here of those that no file has.
-            Wrong::AsksClassBeforeFile if self.class >= 16 => class.or(file),
+            Wrong::AsksClassBeforeFile if self.members.last() >= Some(&16) => class.or(file),
             Wrong::AsksLogBeforeClass => file.or(log).or(class).or(extract),
             Wrong::AsksRoomBeforeLog => file.or(class).or(extract).or(log),
+            Wrong::AsksRoomBeforeClass if no_class => file.or(extract).or(class),
             _ => file.or(class).or(log).or(extract),
         }
     }
@@ -231,9 +301,22 @@ impl View<'_> {
     }
 
     fn sees(&self, other: usize) -> bool {
+        let members = &self.members;
+        let flows_to = |&member: &usize| self.policy.flows(other, member);
+        let flows_from = |&member: &usize| self.policy.flows(member, other);
+        let to_one = members.iter().any(flows_to);
+        let exists = other < self.policy.class_count();
         match self.wrong {
-            Wrong::SeesClassesAbove => self.policy.flows(self.class, other),
-            _ => self.policy.flows(other, self.class),
+            Wrong::SeesClassesAbove => members.iter().any(flows_from),
+            Wrong::KeepsForEveryMember => exists && members.iter().all(flows_to),
+            Wrong::KeepsForEveryMemberOfSome => to_one && members.iter().all(flows_to),
+            Wrong::KeepsTheLeastClass => to_one || other == self.policy.least(),
+            Wrong::TakesTheEmptySetForAll => to_one || members.is_empty() && exists,
+            Wrong::SeesClassesAboveAll => exists && members.iter().all(flows_from),
+            Wrong::SeesByTheLowestMember => members.first().is_some_and(flows_to),
+            Wrong::SeesByTheHighestMember => members.last().is_some_and(flows_to),
+            Wrong::SeesMembersAlone => members.contains(&other),
+            _ => to_one,
         }
     }
 

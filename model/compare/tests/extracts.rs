@@ -1,18 +1,25 @@
 //! The extracts of the built library beside the model's: for every class of
-//! generated folders, of logs that a run wrote and of logs of any numbers.
+//! generated folders, and for sets of their classes (W-211), of logs that a run wrote
+//! and of logs of any numbers.
 
 mod common;
 
 use common::*;
-use vigambul_compare::calls::{Calls, Library, Model};
-use vigambul_compare::wrong::{WithWrongExtract, Wrong, LEAKS, OTHERS};
-use vigambul_model::extract::{extract, is_kept, HIDDEN_TURN};
-use vigambul_model::planted::Planted;
+use vigambul_compare::calls::{Calls, Library, Model, Viewer};
+use vigambul_compare::wrong::{
+    WithWrongExtract, Wrong, LEAKS, LEAKS_OF_SETS, OTHERS, OTHERS_OF_SETS,
+};
+use vigambul_model::class_set::{
+    kinds, kinds_of_offers, ClassSet, OFFER_KINDS, REFUSED_KINDS, TAKEN_KINDS,
+};
+use vigambul_model::extract::{extract_set, Seen, HIDDEN_TURN};
+use vigambul_model::generate::any_log;
+use vigambul_model::planted::{self, Planted};
 use vigambul_model::policy::{self, Policy};
 use vigambul_model::program::read_trace;
 use vigambul_model::random::Random;
 use vigambul_model::trace::{
-    class_bits, tried, Word, COLUMN_BIT, ELIDED, LINE, OFFER_BIT, TRIED_BITS, TRIED_SHIFT,
+    class_bits, tried, Word, COLUMN_BIT, ELIDED, LINE, OFFER_BIT, TRIED_BITS,
 };
 
 /// Numbers on both sides of a lent extract, in which a stray write shows.
@@ -20,6 +27,77 @@ const GUARD: usize = 8;
 
 /// Classes that no policy has. Some would be one of its own in fewer bits.
 const NO_CLASSES: [u32; 8] = [16, 31, 32, 255, 256, 65_536, 1 << 31, u32::MAX];
+
+// ---------------------------------------------------------------------------
+// Whom extracts are for.
+
+/// The viewers that a folder is tried with.
+#[derive(Clone, Copy, PartialEq, Eq)]
+enum Viewers {
+    /// Every class.
+    Classes,
+    /// The folder's sets of classes.
+    Sets,
+}
+
+impl Viewers {
+    /// Those that 9 does not refuse.
+    fn taken(self, case: &Case, policy: &Policy) -> Vec<Viewer> {
+        match self {
+            Viewers::Classes => (0..policy.class_count() as u32)
+                .map(Viewer::Class)
+                .collect(),
+            Viewers::Sets => sets(case, |set| set.is_of(policy)),
+        }
+    }
+
+    /// Those that it refuses.
+    fn missing(self, case: &Case, policy: &Policy) -> Vec<Viewer> {
+        let n = policy.class_count() as u32;
+        match self {
+            Viewers::Classes => [n]
+                .into_iter()
+                .chain(NO_CLASSES)
+                .map(Viewer::Class)
+                .collect(),
+            Viewers::Sets => sets(case, |set| !set.is_of(policy)),
+        }
+    }
+
+    /// Those that a refused file is tried with.
+    fn of_refused_file(self) -> Vec<Viewer> {
+        match self {
+            Viewers::Classes => [0, 1, 15, 16, 31, u32::MAX].map(Viewer::Class).to_vec(),
+            Viewers::Sets => [0, 1, 0b110, 1 << 15, 1 << 16, u32::MAX]
+                .map(Viewer::Set)
+                .to_vec(),
+        }
+    }
+
+    /// What the calls must meet for these viewers alone.
+    fn names(self) -> Vec<&'static str> {
+        match self {
+            Viewers::Classes => {
+                vec![
+                    "9, class n",
+                    "9, class 31",
+                    "9, class 2^32 - 1",
+                    "9, another class",
+                ]
+            }
+            Viewers::Sets => {
+                let kinds = TAKEN_KINDS.into_iter().chain(REFUSED_KINDS);
+                kinds.chain(OFFER_KINDS).collect()
+            }
+        }
+    }
+}
+
+/// The sets of a case that fit.
+fn sets(case: &Case, fit: impl Fn(&ClassSet) -> bool) -> Vec<Viewer> {
+    let fitting = case.sets.iter().filter(|&set| fit(set));
+    fitting.map(|set| Viewer::Set(set.0)).collect()
+}
 
 // ---------------------------------------------------------------------------
 // One call.
@@ -30,18 +108,17 @@ struct Asked<'a> {
     file: &'a [u8],
     /// The file as the model reads it, or the number that refuses it.
     policy: &'a Result<Policy, u32>,
-    class: u32,
+    viewer: Viewer,
     trace: &'a [u32],
     log: &'a [u32],
 }
 
 impl Asked<'_> {
-    /// The numbers that are kept for the class.
+    /// The numbers that are kept for the viewer.
     fn needed(&self) -> usize {
-        let class = self.class as usize;
         let kept = |policy: &Policy| {
-            let kept = self.trace.iter().filter(|&&n| is_kept(policy, class, n));
-            LINE * kept.count()
+            let seen = Seen::by(policy, self.viewer.classes());
+            LINE * self.trace.iter().filter(|&&n| seen.keeps(n)).count()
         };
         self.policy.as_ref().map_or(0, kept)
     }
@@ -58,24 +135,24 @@ impl Asked<'_> {
         let (expected_count, expected_status) = match self.policy {
             Err(number) => (0, *number),
             Ok(policy) => {
-                let class = self.class as usize;
+                let classes = self.viewer.classes();
                 let out = &mut expected[lent.clone()];
-                let (count, refusal) = extract(policy, class, self.trace, self.log, out);
+                let (count, refusal) = extract_set(policy, classes, self.trace, self.log, out);
                 (count, refusal.map_or(0, |refusal| refusal.number()))
             }
         };
         assert_eq!(expected_status, status, "the model's status");
         let (count, status) = calls.extract(
             self.file,
-            self.class,
+            self.viewer,
             self.trace,
             self.log,
             &mut numbers[lent],
         );
         let where_it_was = || {
             format!(
-                "class {}, {} trace numbers, a log of {}, room for {room}",
-                self.class,
+                "{}, {} trace numbers, a log of {}, room for {room}",
+                self.viewer,
                 self.trace.len(),
                 self.log.len()
             )
@@ -102,8 +179,8 @@ impl Asked<'_> {
 // ---------------------------------------------------------------------------
 // One folder.
 
-/// What the calls on folders must meet, besides what the extracts show.
-const CALLS: [&str; 41] = [
+/// What the calls on folders must meet, besides what the extracts show and what is the viewers' own.
+const CALLS: [&str; 37] = [
     "folders",
     "policies accepted",
     "extracts of a run's log",
@@ -129,10 +206,6 @@ const CALLS: [&str; 41] = [
     "17, a log as long as the trace",
     "17, a log of what is kept alone",
     "17 before 16",
-    "9, class n",
-    "9, class 31",
-    "9, class 2^32 - 1",
-    "9, another class",
     "9 before 17",
     "9 before 16",
     "9 before 17 and 16",
@@ -151,6 +224,7 @@ const CALLS: [&str; 41] = [
 fn check_folder(
     calls: &impl Calls,
     case: &Case,
+    viewers: Viewers,
     tally: &mut Tally,
     shown: &mut Shown,
 ) -> Result<(), String> {
@@ -163,20 +237,23 @@ fn check_folder(
         (_, Some(refusal)) => Err(refusal.number()),
     };
     tally.met("folders");
-    let asked = |class: u32| Asked {
+    let asked = |viewer: Viewer| Asked {
         file,
         policy: &policy,
-        class,
+        viewer,
         trace: &trace,
         log: &[],
     };
     let any_log = any_log(random, &trace);
     let Ok(accepted) = &policy else {
-        let call = |class: u32| Asked {
-            log: &any_log,
-            ..asked(class)
-        };
-        return check_refused_file(calls, call, random, tally);
+        for viewer in viewers.of_refused_file() {
+            let call = Asked {
+                log: &any_log,
+                ..asked(viewer)
+            };
+            check_refused_file(calls, &call, random, tally)?;
+        }
+        return Ok(());
     };
     tally.met("policies accepted");
     let mut log = vec![0; LINE * trace.len()];
@@ -185,32 +262,53 @@ fn check_folder(
         return Err(format!("the run, of status {status}, is not the model's"));
     }
 
-    let n = accepted.class_count() as u32;
-    for class in 0..n {
+    for viewer in viewers.taken(case, accepted) {
         for (log, name) in [
             (&log, "extracts of a run's log"),
             (&any_log, "extracts of a log of any numbers"),
         ] {
             let call = Asked {
                 log,
-                ..asked(class)
+                ..asked(viewer)
             };
             check_rooms(calls, &call, random, tally)?;
             check_wrong_logs(calls, &call, random, tally)?;
             tally.met(name);
+            shown.count(accepted, viewer, &trace, log);
         }
-        shown.count(accepted, class, &trace, &log);
-        shown.count(accepted, class, &trace, &any_log);
+        count_viewer(accepted, viewer, &trace, tally);
     }
-    for class in [n].into_iter().chain(NO_CLASSES) {
+    for viewer in viewers.missing(case, accepted) {
         let log = if random.below(2) == 0 { &log } else { &any_log };
         let call = Asked {
             log,
-            ..asked(class)
+            ..asked(viewer)
         };
-        check_missing_class(calls, &call, n, random, tally)?;
+        check_missing_class(calls, &call, random, tally)?;
+        count_viewer(accepted, viewer, &trace, tally);
     }
     Ok(())
+}
+
+/// Counts what is the viewer's own.
+fn count_viewer(policy: &Policy, viewer: Viewer, trace: &[u32], tally: &mut Tally) {
+    let n = policy.class_count();
+    let classes = viewer.classes();
+    match viewer {
+        Viewer::Class(class) if (class as usize) < n => {}
+        Viewer::Class(class) if class as usize == n => tally.met("9, class n"),
+        Viewer::Class(31) => tally.met("9, class 31"),
+        Viewer::Class(u32::MAX) => tally.met("9, class 2^32 - 1"),
+        Viewer::Class(_) => tally.met("9, another class"),
+        Viewer::Set(_) => {
+            kinds(policy, classes)
+                .into_iter()
+                .for_each(|kind| tally.met(kind));
+            if classes.is_of(policy) {
+                kinds_of_offers(policy, classes, trace).for_each(|kind| tally.met(kind));
+            }
+        }
+    }
 }
 
 /// Rooms around what is needed: 16, or an extract.
@@ -278,22 +376,15 @@ fn check_wrong_logs(
     Ok(())
 }
 
-/// A class that the policy does not have: 9, whatever else is wrong.
+/// A class that the policy does not have, or a set with one: 9, whatever else is wrong.
 fn check_missing_class(
     calls: &impl Calls,
     call: &Asked,
-    n: u32,
     random: &mut Random,
     tally: &mut Tally,
 ) -> Result<(), String> {
     let room = call.log.len();
     call.check(calls, room, 9)?;
-    match call.class {
-        class if class == n => tally.met("9, class n"),
-        31 => tally.met("9, class 31"),
-        u32::MAX => tally.met("9, class 2^32 - 1"),
-        _ => tally.met("9, another class"),
-    }
     // Room for no line of a tick, which every class would keep.
     let ticks = call.trace.iter().filter(|&&number| number == 0).count();
     let short = (LINE * ticks).checked_sub(1 + random.below(4));
@@ -322,98 +413,25 @@ fn check_missing_class(
 }
 
 /// A refused file: its number, whatever else is wrong.
-fn check_refused_file<'a>(
+fn check_refused_file(
     calls: &impl Calls,
-    call: impl Fn(u32) -> Asked<'a>,
+    call: &Asked,
     random: &mut Random,
     tally: &mut Tally,
 ) -> Result<(), String> {
-    for class in [0, 1, 15, 16, 31, u32::MAX] {
-        let call = call(class);
-        let number = *call.policy.as_ref().expect_err("the file is refused");
-        call.check(calls, call.log.len(), number)?;
-        tally.met(&format!("refusal {number}"));
-        call.check(calls, random.below(call.log.len()), number)?;
-        let longer = [call.log, &[0]].concat();
-        let wrong = Asked {
-            log: &longer,
-            ..call
-        };
-        wrong.check(calls, call.log.len() + 1, number)?;
-        wrong.check(calls, 0, number)?;
-        tally.met("1 to 8 before 9, 17 and 16");
-    }
-    Ok(())
-}
-
-// ---------------------------------------------------------------------------
-// Logs of any numbers.
-
-/// A log of a trace that no run wrote. Mostly each number is something like one
-/// in its place, so that all that an extract asks of it has many answers.
-fn any_log(random: &mut Random, trace: &[u32]) -> Vec<u32> {
-    let line = |_: &u32| {
-        [
-            any_status(random),
-            any_word(random),
-            any_word(random),
-            any_turn(random),
-        ]
+    let number = *call.policy.as_ref().expect_err("the file is refused");
+    call.check(calls, call.log.len(), number)?;
+    tally.met(&format!("refusal {number}"));
+    call.check(calls, random.below(call.log.len()), number)?;
+    let longer = [call.log, &[0]].concat();
+    let wrong = Asked {
+        log: &longer,
+        ..*call
     };
-    trace.iter().flat_map(line).collect()
-}
-
-fn any_status(random: &mut Random) -> u32 {
-    match random.below(4) {
-        0 => 0,
-        1 => random.next() as u32,
-        _ => random.below(20) as u32,
-    }
-}
-
-/// A number in the place of a command or an answer.
-fn any_word(random: &mut Random) -> u32 {
-    let any = random.next() as u32;
-    let class = (random.below(32) as u32) << 24;
-    let low_class = (random.below(17) as u32) << 24;
-    match random.below(10) {
-        0 => 0,
-        1 => any,
-        2 => 1 << random.below(32),
-        3 => [1, u32::MAX, OFFER_BIT, COLUMN_BIT, 1 << 29][random.below(5)],
-        // A class, with any bits around it.
-        4 | 5 => any & !(0x1F << 24) | low_class,
-        // An offer's word or a column command, of any class.
-        6 => OFFER_BIT | class | any & 0x00FF_FFFF,
-        7 => OFFER_BIT | COLUMN_BIT | class | any & 0x00D7_FFFF,
-        // The same of a class that likely exists.
-        8 => OFFER_BIT | low_class | any & 0x00D7_FFFF,
-        // No bit but the class.
-        _ => class,
-    }
-}
-
-/// A number in the place of a turn.
-fn any_turn(random: &mut Random) -> u32 {
-    let any = random.next() as u32;
-    let owner = random.below(17) as u32;
-    let walk = (1 + random.below(31) as u32) << TRIED_SHIFT;
-    match random.below(10) {
-        0 => 0,
-        1 => any,
-        // What a run writes, of classes that exist and that do not; and without a walk.
-        2 => 1 + owner,
-        3 => 1 + owner + walk,
-        4 => 1 + owner + ELIDED,
-        5 => 1 + owner + ELIDED + walk,
-        // A low byte of 0, or any low byte.
-        6 => [256, 512, 768, 65_536, 1 << 31, walk, any << 8][random.below(7)],
-        7 => random.below(256) as u32,
-        // An owner, with any bits above the low byte.
-        8 => any << 8 | (1 + owner),
-        // Owners that are others in fewer bits.
-        _ => (32 << random.below(3)) + 1 + owner,
-    }
+    wrong.check(calls, call.log.len() + 1, number)?;
+    wrong.check(calls, 0, number)?;
+    tally.met("1 to 8 before 9, 17 and 16");
+    Ok(())
 }
 
 // ---------------------------------------------------------------------------
@@ -550,9 +568,10 @@ impl Shown {
         ]
     }
 
-    fn count(&mut self, policy: &Policy, class: u32, trace: &[u32], log: &[u32]) {
+    fn count(&mut self, policy: &Policy, viewer: Viewer, trace: &[u32], log: &[u32]) {
         let n = policy.class_count();
-        let sees = |other: usize| policy.flows(other, class as usize);
+        let seen = Seen::by(policy, viewer.classes());
+        let sees = |other: usize| seen.has(other);
         for (&number, line) in trace.iter().zip(log.chunks_exact(LINE)) {
             match Word::of(number) {
                 Word::Malformed => self.malformed_words_dropped += 1,
@@ -641,12 +660,13 @@ impl Shown {
 /// Compares extracts on folders, up to the first difference, which is told.
 fn compare(
     calls: &impl Calls,
+    viewers: Viewers,
     cases: impl Iterator<Item = Case>,
     tally: &mut Tally,
 ) -> Option<String> {
     let mut shown = Shown::default();
     for case in cases {
-        if let Err(why) = check_folder(calls, &case, tally, &mut shown) {
+        if let Err(why) = check_folder(calls, &case, viewers, tally, &mut shown) {
             return Some(format!("seed {} ({}): {why}", case.seed, case.change));
         }
     }
@@ -656,33 +676,100 @@ fn compare(
     None
 }
 
-fn tally() -> Tally {
+fn tally(viewers: Viewers) -> Tally {
     let shown = Shown::default().counts().map(|(name, _)| name);
-    Tally::new(CALLS.into_iter().chain(shown))
+    Tally::new(CALLS.into_iter().chain(shown).chain(viewers.names()))
+}
+
+/// What is found in so many folders as something wrong must be found in.
+fn found(calls: &impl Calls, viewers: Viewers) -> Option<String> {
+    compare(calls, viewers, cases().take(200), &mut tally(viewers))
+}
+
+fn check_library(viewers: Viewers) {
+    let mut tally = tally(viewers);
+    assert_eq!(compare(&Library, viewers, cases(), &mut tally), None);
+    tally.require_all_met();
 }
 
 #[test]
 fn the_library_extracts_what_the_model_extracts() {
-    let mut tally = tally();
-    assert_eq!(compare(&Library, cases(), &mut tally), None);
-    tally.require_all_met();
+    check_library(Viewers::Classes);
+}
+
+#[test]
+fn the_library_extracts_for_sets_what_the_model_extracts() {
+    check_library(Viewers::Sets);
+}
+
+/// "A set of one class gives the extract as it was": of the library's two functions one is held against the
+/// other, for every class and some that no policy has.
+#[test]
+fn the_librarys_sets_of_one_class_are_its_classes() {
+    let mut statuses = Tally::new(["0", "1", "2", "3", "4", "5", "6", "7", "8", "9", "16", "17"]);
+    for case in cases().take(1_000) {
+        let random = &mut Random::new(case.seed);
+        let trace = read_trace(case.trace_bytes()).numbers;
+        let mut log = any_log(random, &trace);
+        for class in 0..32 {
+            if random.below(8) == 0 {
+                log.push(0);
+            }
+            let room = random.below(LINE * trace.len() + 9);
+            let [of_class, of_set] =
+                [Viewer::Class(class), Viewer::Set(1 << class)].map(|viewer| {
+                    let mut out = vec![0x5AA5_5AA5; room];
+                    let answer =
+                        Library.extract(case.policy_bytes(), viewer, &trace, &log, &mut out);
+                    (answer, out)
+                });
+            assert_eq!(of_class, of_set, "seed {}, class {class}", case.seed);
+            let ((_, status), _) = of_class;
+            statuses.met(&status.to_string());
+            log.truncate(LINE * trace.len());
+        }
+    }
+    statuses.require_all_met();
 }
 
 #[test]
 fn every_wrong_extract_is_found() {
     for wrong in LEAKS.into_iter().chain(OTHERS) {
-        let found = compare(&WithWrongExtract(wrong), cases().take(200), &mut tally());
+        let found = found(&WithWrongExtract(wrong), Viewers::Classes);
         println!("{wrong:?}: {found:?}");
         assert!(found.is_some(), "{wrong:?} was not found");
     }
 }
 
+/// What is wrong for one class is wrong for sets too, but for one thing that sets do not have.
+#[test]
+fn every_wrong_extract_for_sets_is_found() {
+    let of_sets = LEAKS_OF_SETS.into_iter().chain(OTHERS_OF_SETS);
+    for wrong in LEAKS.into_iter().chain(OTHERS).chain(of_sets) {
+        if wrong == Wrong::TakesClassesByTheirLowByte {
+            continue;
+        }
+        let found = found(&WithWrongExtract(wrong), Viewers::Sets);
+        println!("{wrong:?}: {found:?}");
+        assert!(found.is_some(), "{wrong:?} was not found");
+    }
+    // The model's own: those that leak and the one that does not.
+    for planted in planted::LEAKS_OF_SETS
+        .into_iter()
+        .chain([Planted::RoomBeforeClass])
+    {
+        let found = found(&Model(planted), Viewers::Sets);
+        println!("{planted:?}: {found:?}");
+        assert!(found.is_some(), "{planted:?} was not found");
+    }
+}
+
 #[test]
 fn nothing_is_found_where_nothing_is_wrong() {
-    let right = WithWrongExtract(Wrong::Nothing);
-    assert_eq!(compare(&right, cases().take(200), &mut tally()), None);
-    let model = Model(Planted::Nothing);
-    assert_eq!(compare(&model, cases().take(200), &mut tally()), None);
+    for viewers in [Viewers::Classes, Viewers::Sets] {
+        assert_eq!(found(&WithWrongExtract(Wrong::Nothing), viewers), None);
+        assert_eq!(found(&Model(Planted::Nothing), viewers), None);
+    }
 }
 
 #[test]
@@ -692,11 +779,13 @@ fn a_log_of_a_million_lines() {
     let trace = generated_trace(7, &file, 1_000_000);
     let mut log = vec![0; LINE * trace.len()];
     assert_eq!(Library.run(&file, &trace, &mut log), 0);
-    for class in 0..4 {
+    let classes = (0..4).map(Viewer::Class);
+    // None, two that are incomparable, and a class with one above it.
+    for viewer in classes.chain([0, 0b1001, 0b0011].map(Viewer::Set)) {
         let call = Asked {
             file: &file,
             policy: &policy,
-            class,
+            viewer,
             trace: &trace,
             log: &log,
         };
@@ -709,12 +798,13 @@ fn a_log_of_a_million_lines() {
 fn extracts_at_the_same_time_do_not_meet() {
     // Each thread has cases of its own; what one leaves behind would show in
     // the other.
-    let half = |odd: usize| {
+    let half = |odd: usize, viewers: Viewers| {
         let cases = cases().skip(odd).step_by(2).take(150);
-        assert_eq!(compare(&Library, cases, &mut tally()), None);
+        let difference = compare(&Library, viewers, cases, &mut tally(viewers));
+        assert_eq!(difference, None);
     };
     std::thread::scope(|scope| {
-        scope.spawn(|| half(0));
-        scope.spawn(|| half(1));
+        scope.spawn(|| half(0, Viewers::Classes));
+        scope.spawn(|| half(1, Viewers::Sets));
     });
 }

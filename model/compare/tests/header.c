@@ -81,6 +81,55 @@ static void extracts(void)
     expect(vigambul_extract(NULL, 0, 0, NULL, 0, NULL, 0, NULL, 0, &status) == 0 && status == 1, "nothing at all to extract");
 }
 
+/* Two tenants, 1 and 2, over a base, 0: what each sees, what they see together, and what nobody sees. */
+static void sets(void)
+{
+    static const uint8_t tenants[] = {
+        3, 1, 16, 0, 7, 0, 2, 23, 0, 4, 0, 3, 27, 0, 10, 0, 3, 7, 0, 2, 0, 4, 0, 3, 0, 1, 1, 4, 2, 2, 2, 2, 2, 2, 2, 1, 2};
+    static const uint32_t trace[] = {
+        VIGAMBUL_OFFER(0, 0, 0, 5), VIGAMBUL_OFFER(1, 0, 0, 7), VIGAMBUL_OFFER(2, 0, 0, 8), VIGAMBUL_TICK};
+    /* A set, and how many offers it keeps. */
+    static const uint32_t kept[][2] = {{0, 0}, {1, 1}, {1 << 1, 2}, {1 << 2, 2}, {1 << 1 | 1 << 2, 3}, {7, 3}};
+    static const uint32_t refused[] = {1 << 3, 1 << 1 | 1 << 3, 1 << 15, UINT32_C(1) << 16, UINT32_C(1) << 31, UINT32_MAX};
+    enum { LINES = COUNT(trace) };
+    uint32_t log[4 * LINES];
+    uint32_t out[4 * LINES + 1];
+    uint32_t of_class[4 * LINES + 1];
+    uint32_t status = UNWRITTEN;
+    size_t i;
+    expect(vigambul_run(tenants, COUNT(tenants), trace, COUNT(trace), log, COUNT(log)) == VIGAMBUL_TAKEN, "a run of two tenants");
+    expect(log[13] == trace[0] && log[15] == 0x00010101, "the base's turn");
+    for (i = 0; i < COUNT(kept); i++) {
+        const size_t offers = kept[i][1], count = 4 * (offers + 1);
+        memset(out, 0x55, sizeof out);
+        expect(vigambul_extract_set(tenants, COUNT(tenants), kept[i][0], trace, COUNT(trace), log, COUNT(log), out, COUNT(out), &status) == count, "the count of a set's extract");
+        expect(status == VIGAMBUL_TAKEN, "its status");
+        expect(out[4 * offers + 1] == (offers == 0 ? 0 : trace[0]), "the base's command as a set sees it");
+        expect(out[4 * offers + 3] == (offers == 0 ? VIGAMBUL_TURN_HIDDEN : log[15]), "the base's turn as a set sees it");
+        expect(out[count] == 0x55555555, "a number past a set's extract");
+        expect(vigambul_extract_set(tenants, COUNT(tenants), kept[i][0], trace, COUNT(trace), log, COUNT(log), out, count - 1, &status) == 0 && status == VIGAMBUL_REFUSED_ROOM, "room for a set one number short");
+    }
+    for (i = 0; i < 4; i++) {
+        size_t counts[2];
+        uint32_t statuses[2] = {UNWRITTEN, UNWRITTEN};
+        memset(out, 0x55, sizeof out);
+        memset(of_class, 0x55, sizeof of_class);
+        counts[0] = vigambul_extract(tenants, COUNT(tenants), (uint32_t)i, trace, COUNT(trace), log, COUNT(log), of_class, COUNT(of_class), &statuses[0]);
+        counts[1] = vigambul_extract_set(tenants, COUNT(tenants), UINT32_C(1) << i, trace, COUNT(trace), log, COUNT(log), out, COUNT(out), &statuses[1]);
+        expect(counts[0] == counts[1] && statuses[0] == statuses[1] && memcmp(out, of_class, sizeof out) == 0, "a set of one class");
+    }
+    for (i = 0; i < COUNT(refused); i++) {
+        memset(out, 0x55, sizeof out);
+        expect(vigambul_extract_set(tenants, COUNT(tenants), refused[i], trace, COUNT(trace), log, COUNT(log) - 1, out, COUNT(out), &status) == 0 && status == VIGAMBUL_REFUSED_CLASS, "a set with no such class");
+        expect(out[0] == 0x55555555, "a refused extract for a set that writes");
+        expect(vigambul_extract_set(tenants, COUNT(tenants), refused[i], trace, COUNT(trace), log, COUNT(log), NULL, 0, &status) == 0 && status == VIGAMBUL_REFUSED_CLASS, "9 before 16");
+    }
+    expect(vigambul_extract_set(tenants, COUNT(tenants), 6, trace, COUNT(trace), log, COUNT(log) - 1, NULL, 0, &status) == 0 && status == VIGAMBUL_REFUSED_LOG_LENGTH, "a set's log one number short");
+    expect(vigambul_extract_set(tenants, COUNT(tenants), 6, NULL, 0, NULL, 0, NULL, 0, &status) == 0 && status == VIGAMBUL_TAKEN, "a set's extract of nothing");
+    expect(vigambul_extract_set(tenants, COUNT(tenants) - 1, UINT32_MAX, trace, COUNT(trace), NULL, 0, NULL, 0, &status) == 0 && status == VIGAMBUL_REFUSED_CONTENTS, "a set under a file that is cut off");
+    expect(vigambul_extract_set(NULL, 0, 0, NULL, 0, NULL, 0, NULL, 0, &status) == 0 && status == VIGAMBUL_REFUSED_CONTENTS, "a set under no file");
+}
+
 /* The longest chain up from each class, and 9 for any other; a file that is refused is so first. */
 static void bounds(void)
 {
@@ -249,6 +298,7 @@ int main(void)
 {
     runs();
     extracts();
+    sets();
     bounds();
     refusals();
     words();

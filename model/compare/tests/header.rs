@@ -142,7 +142,7 @@ fn every_macro_and_number_of_the_header_is_tried() {
 #[test]
 fn the_rust_declarations_are_the_headers() {
     let in_c = declared_in_c();
-    assert_eq!(in_c.len(), 3, "{in_c:?}");
+    assert_eq!(in_c.len(), 4, "{in_c:?}");
     assert_eq!(declared_in_rust(), in_c);
 }
 

@@ -1,5 +1,6 @@
 //! "Two lists side by side", through the built library: two lists that agree
-//! for a class L are run, and the extracts of their logs for L are compared.
+//! for a class L, or for W-211's set of classes, are run, and the extracts of their logs
+//! for it are compared.
 //!
 //! The pairs, the planted leaks and what must be met are those of the model's own
 //! search; the comparison is this one's own. Through the library no state is
@@ -11,10 +12,15 @@ use std::hash::{DefaultHasher, Hash, Hasher};
 use std::ops::Range;
 
 use common::*;
-use vigambul_compare::calls::{Calls, Library, Model};
-use vigambul_compare::wrong::{WithWrongExtract, Wrong, LEAKS};
+use vigambul_compare::calls::{Calls, Library, Model, Viewer};
+use vigambul_compare::wrong::{WithWrongExtract, Wrong, LEAKS, LEAKS_OF_SETS, OTHERS_OF_SETS};
+use vigambul_model::class_set::ClassSet;
+use vigambul_model::extract::Seen;
 use vigambul_model::generate::{malformed_word, sound_offer};
-use vigambul_model::leaks::{self, Check, Cut, Pair, ORDINARY_PAIRS, PAIRS_ENOUGH};
+use vigambul_model::leaks::{
+    self, Check, Cut, Pair, ORDINARY_PAIRS, ORDINARY_PAIRS_OF_SETS, PAIRS_ENOUGH,
+    PAIRS_OF_SETS_ENOUGH,
+};
 use vigambul_model::met::Met;
 use vigambul_model::planted::{self, Planted};
 use vigambul_model::random::Random;
@@ -40,20 +46,29 @@ fn search(
     for seed in seeds {
         let pair = pair(seed);
         if let Err((check, what)) = compare(calls, &pair, met) {
-            let what = format!("seed {seed}, class {}: {what}", pair.class);
+            let what = format!("seed {seed}, {}: {what}", viewer(&pair));
             return Some((check, what));
         }
     }
     None
 }
 
-/// Whether L is told the same by the extracts of both lists of a pair.
+/// Whom the extracts of a pair are for. A pair for a set asks the function for sets, also where the set is one
+/// class.
+fn viewer(pair: &Pair) -> Viewer {
+    match pair.refused {
+        Some(_) => Viewer::Set(pair.classes.0),
+        None => Viewer::Class(pair.classes.0.trailing_zeros()),
+    }
+}
+
+/// Whether L, or the set, is told the same by the extracts of both lists of a pair.
 fn compare(calls: &impl Calls, pair: &Pair, met: &mut Met) -> Result<(), Leak> {
     let [left, right] = [0, 1].map(|side| run(calls, pair, side));
     let logs = [left?, right?];
 
     // What the lists have in common is all that is kept of either.
-    let needed = LINE * leaks::purge(&pair.policy, pair.class, &pair.lists[0]).len();
+    let needed = LINE * leaks::purge(pair.seen, &pair.lists[0]).len();
     let longest = pair.lists[0].len().max(pair.lists[1].len());
     // "with room enough", of several sizes; and "given equal room, 16 meets both
     // or neither".
@@ -61,7 +76,7 @@ fn compare(calls: &impl Calls, pair: &Pair, met: &mut Met) -> Result<(), Leak> {
     let short = (1..=4).map(|short| needed.saturating_sub(short));
     let mut seen = Vec::new();
     for room in enough.into_iter().chain(short).chain([0]) {
-        let told = [0, 1].map(|side| Told::new(calls, pair, side, &logs[side], room));
+        let told = [0, 1].map(|side| Told::new(calls, pair, viewer(pair), side, &logs[side], room));
         if let Some((check, what)) = difference(&told) {
             return Err((check, format!("{what}, with room for {room}")));
         }
@@ -73,6 +88,18 @@ fn compare(calls: &impl Calls, pair: &Pair, met: &mut Met) -> Result<(), Leak> {
         if room == needed {
             let [first, _] = told;
             seen = first.numbers;
+        }
+    }
+    // A set with a class that does not exist is refused, whatever the list.
+    if let Some(refused) = pair.refused.map(|set| Viewer::Set(set.0)) {
+        let told = [0, 1].map(|side| Told::new(calls, pair, refused, side, &logs[side], needed));
+        if let Some((check, what)) = difference(&told) {
+            return Err((check, format!("{what}, for {refused}")));
+        }
+        let written = told[0].numbers.iter().any(|&number| number != FILLER);
+        if told[0].status == 0 || told[0].count != 0 || written {
+            let what = format!("both get {} for {refused}", told[0].status);
+            return Err((Check::RefusedSet, what));
         }
     }
     met.add_pair(pair, [&logs[0], &logs[1]], &seen);
@@ -98,11 +125,17 @@ struct Told {
 }
 
 impl Told {
-    fn new(calls: &impl Calls, pair: &Pair, side: usize, log: &[u32], room: usize) -> Told {
+    fn new(
+        calls: &impl Calls,
+        pair: &Pair,
+        viewer: Viewer,
+        side: usize,
+        log: &[u32],
+        room: usize,
+    ) -> Told {
         let mut numbers = vec![FILLER; room];
-        let class = pair.class as u32;
-        let (count, status) =
-            calls.extract(&pair.file, class, &pair.lists[side], log, &mut numbers);
+        let list = &pair.lists[side];
+        let (count, status) = calls.extract(&pair.file, viewer, list, log, &mut numbers);
         Told {
             count,
             status,
@@ -134,18 +167,31 @@ fn difference([left, right]: &[Told; 2]) -> Option<Leak> {
 // ---------------------------------------------------------------------------
 // The tests.
 
-#[test]
-fn the_library_shows_no_leak() {
-    let mut met = Met::default();
-    let pairs = seeds("VIGAMBUL_PAIRS", ORDINARY_PAIRS);
-    assert_eq!(search(&Library, leaks::pair, pairs, &mut met), None);
+fn check_library(pair: fn(u64) -> Pair, count: u64, mut met: Met) {
+    let pairs = seeds("VIGAMBUL_PAIRS", count);
+    assert_eq!(search(&Library, pair, pairs, &mut met), None);
     println!("{}", met.report());
     assert_eq!(met.too_little(), [""; 0]);
+}
+
+#[test]
+fn the_library_shows_no_leak() {
+    check_library(leaks::pair, ORDINARY_PAIRS, Met::default());
+}
+
+#[test]
+fn the_library_shows_no_leak_to_sets_of_classes() {
+    check_library(leaks::pair_of_set, ORDINARY_PAIRS_OF_SETS, Met::of_sets());
 }
 
 /// Each planted leak must be found in these: a tenth of the pairs.
 fn pairs_enough() -> Range<u64> {
     seeds("VIGAMBUL_PAIRS", PAIRS_ENOUGH)
+}
+
+/// The same of pairs for sets of classes.
+fn pairs_of_sets_enough() -> Range<u64> {
+    seeds("VIGAMBUL_PAIRS", PAIRS_OF_SETS_ENOUGH)
 }
 
 /// The same search finds a leak in something that leaks.
@@ -155,6 +201,27 @@ fn finds(calls: &impl Calls, pair: impl Fn(u64) -> Pair, name: &str) -> Option<C
     println!("{name} after {} pairs: {leak:?}", met.pairs() + 1);
     assert!(leak.is_some(), "{name} was not found");
     leak.map(|(check, _)| check)
+}
+
+/// What is told by each pair for a set that tells the two lists apart, with its place. What both get alike, such
+/// as 16 where there is room, is wrong and tells nothing.
+fn leaks_to_sets<'a>(
+    calls: &'a impl Calls,
+    pair: impl Fn(u64) -> Pair + 'a,
+    seeds: Range<u64>,
+) -> impl Iterator<Item = (usize, Leak)> + 'a {
+    let told = move |seed: u64| compare(calls, &pair(seed), &mut Met::of_sets()).err();
+    let alike = [Check::Room, Check::RefusedSet];
+    seeds
+        .enumerate()
+        .filter_map(move |(place, seed)| Some((place, told(seed)?)))
+        .filter(move |(_, (check, _))| !alike.contains(check))
+}
+
+fn finds_for_sets(calls: &impl Calls, pair: impl Fn(u64) -> Pair, name: &str) {
+    let leak = leaks_to_sets(calls, pair, pairs_of_sets_enough()).next();
+    println!("{name}, the first and its place: {leak:?}");
+    assert!(leak.is_some(), "{name} was not found");
 }
 
 #[test]
@@ -200,6 +267,34 @@ fn every_extract_that_leaks_is_found() {
 }
 
 #[test]
+fn every_planted_leak_to_sets_is_found() {
+    for planted in planted::LEAKS_OF_SETS {
+        let pair = |seed| leaks::pair_of_set_planted(seed, planted);
+        finds_for_sets(&Model(planted), pair, &format!("{planted:?}"));
+    }
+}
+
+/// What leaks to one class leaks to sets too.
+#[test]
+fn every_extract_that_leaks_to_sets_is_found() {
+    for wrong in LEAKS.into_iter().chain(LEAKS_OF_SETS) {
+        let calls = WithWrongExtract(wrong);
+        finds_for_sets(&calls, leaks::pair_of_set, &format!("{wrong:?}"));
+    }
+}
+
+/// They are wrong, which the comparison with the model tells, and yet no list tells more than it may.
+#[test]
+fn the_other_wrong_extracts_for_sets_do_not_leak() {
+    for wrong in OTHERS_OF_SETS {
+        let calls = WithWrongExtract(wrong);
+        let pairs = seeds("VIGAMBUL_PAIRS", PAIRS_OF_SETS_ENOUGH / 5);
+        let leak = leaks_to_sets(&calls, leaks::pair_of_set, pairs).next();
+        assert_eq!(leak, None, "{wrong:?}");
+    }
+}
+
+#[test]
 fn nothing_is_found_where_nothing_is_planted() {
     let met = &mut Met::default();
     let model = Model(Planted::Nothing);
@@ -207,6 +302,9 @@ fn nothing_is_found_where_nothing_is_planted() {
     // The extract whose wrong cousins are found.
     let right = WithWrongExtract(Wrong::Nothing);
     assert_eq!(search(&right, leaks::pair, pairs_enough(), met), None);
+    let (met, pairs) = (&mut Met::of_sets(), pairs_of_sets_enough());
+    assert_eq!(search(&model, leaks::pair_of_set, pairs.clone(), met), None);
+    assert_eq!(search(&right, leaks::pair_of_set, pairs, met), None);
 }
 
 // ---------------------------------------------------------------------------
@@ -221,9 +319,10 @@ fn pair_past_the_last_tick() -> Pair {
     let file = diamond();
     let policy = accepted(&file);
     let (start, _) = state::fresh(&policy);
-    let class = 0;
+    let classes = ClassSet::of(0);
+    let seen_by_l = Seen::by(&policy, classes);
     let seen = |number: u32| match Word::of(number) {
-        Word::Offer(request) => policy.flows(usize::from(request.class), class),
+        Word::Offer(request) => seen_by_l.has(usize::from(request.class)),
         _ => true,
     };
     let random = &mut Random::new(12);
@@ -251,7 +350,9 @@ fn pair_past_the_last_tick() -> Pair {
     Pair {
         file,
         policy,
-        class,
+        classes,
+        seen: seen_by_l,
+        refused: None,
         start,
         lists: [left, right],
         cuts: [Cut::OneRun; 2],
@@ -271,7 +372,7 @@ struct ToldOfMany {
 impl ToldOfMany {
     fn new(calls: &impl Calls, pair: &Pair, side: usize, needed: usize) -> ToldOfMany {
         let log = run(calls, pair, side).expect("the run is taken");
-        let told = Told::new(calls, pair, side, &log, needed);
+        let told = Told::new(calls, pair, viewer(pair), side, &log, needed);
         assert_eq!(told.status, 0);
         let lines = told.numbers.chunks_exact(LINE);
         let block = |numbers: &[u32]| {
@@ -290,7 +391,7 @@ impl ToldOfMany {
 #[test]
 fn two_lists_with_refused_ticks_tell_the_same() {
     let pair = pair_past_the_last_tick();
-    let purged = [0, 1].map(|side| leaks::purge(&pair.policy, pair.class, &pair.lists[side]));
+    let purged = [0, 1].map(|side| leaks::purge(pair.seen, &pair.lists[side]));
     assert!(purged[0] == purged[1], "the lists agree");
     assert!(pair.lists[0].len() != pair.lists[1].len());
     let needed = LINE * purged[0].len();

@@ -89,6 +89,30 @@ pub fn read_word(class: u8, tag: u16) -> u32 {
     offer_word(&read_request(class, tag))
 }
 
+/// What an extract shows for a turn whose owner is not seen.
+pub const HIDDEN: u32 = 512;
+
+/// An extract by document 01's sentences, said once more: what those see who see some classes.
+pub fn extract_in_words(seen: impl Fn(u32) -> bool, trace: &[u32], log: &[u32]) -> Vec<u32> {
+    let mut kept = Vec::new();
+    for (&number, line) in trace.iter().zip(log.chunks(4)) {
+        let is_offer = number >> 31 == 1 && number & 0x6000_0000 == 0;
+        if is_offer && seen(number >> 24 & 31) {
+            kept.extend_from_slice(line);
+        } else if number == 0 {
+            let shown = |word: u32| if seen(word >> 24 & 31) { word } else { 0 };
+            let low = line[3] & 255;
+            let turn = match line[3] {
+                0 => 0,
+                turn if low > 0 && seen(low - 1) => turn,
+                _ => HIDDEN,
+            };
+            kept.extend([line[0], shown(line[1]), shown(line[2]), turn]);
+        }
+    }
+    kept
+}
+
 /// Runs a whole list from a state and gives its log.
 pub fn run_on(policy: &Policy, state: &mut State, list: &[u32]) -> Vec<u32> {
     let mut log = vec![0; LINE * list.len()];

@@ -1,156 +1,61 @@
--- `extract::extract` meets its contract: each return is what the definition gives where its tests lead there; what is written last is what the class may see.
+-- `extract::extract` meets its contract: the class is asked for as the set of it alone, to which the same classes may flow wherever the call is not refused before.
 -- Assumes nothing.
-use mathlib.Core.Path.{_≡_, refl, sym, ap, _∙_}
-use mathlib.Core.Bool.{true}
-use mathlib.Core.List.{List, _++_}
-use Prim.Native.Nat.{ℕ, _*_}
-use native.Mathlib.Omega.{arith}
-use borrow.Author.Tests.{eqb-true}
+use mathlib.Core.Path.{ap, ap₂, _∙_}
+use mathlib.Core.Bool.{Bool}
+use Prim.Native.Nat.{ℕ}
 use borrow.Author.Needs.{needs}
-use lib.ListN.{length, drop}
-use Rattle.masks.specs.Mask.{member}
-use Rattle.policy.specs.Policy.{inRange, isClass}
-use Rattle.basics.proofs.Truth.{not-true, not-not}
-use Rattle.extract.specs.Extract.{extractStatus}
-use Rattle.extract.proofs.Grown.{kept-le}
-use Rattle.extract.proofs.Answers.{four-times, refused-13, refused-9, refused-17, refused-16, not-refused, refused, taken, written, kept-is, count-is}
+use Rattle.basics.specs.Below.{setOf}
+use Rattle.masks.specs.Mask.{member, classMask}
+use Rattle.policy.specs.Policy.{isClass}
+use Rattle.extract.specs.Seen.{seenBy, seenByAny}
+use Rattle.extract.specs.Extract.{seenAnswer, seenOut, extract, outAfter}
+use Rattle.extract.proofs.Answers.{seen-masked, same-answers}
 use Rattle.extract.proofs.extract.Statement.{statement}
 use Rattle.extract.proofs.extract.Tie as tie
-
--- the places that the answers look back to: `start-of-slice-known` is the start, seen from `After-slice-known`
-abbrev start-of-slice-known : tie.After-slice-known → tie.Start
-start-of-slice-known c = c .before .before .before
-
-abbrev start-of-then1 : tie.Then1 → tie.Start
-start-of-then1 c = start-of-slice-known (c .before .before)
-
-abbrev start-of-else1 : tie.Else1 → tie.Start
-start-of-else1 c = start-of-slice-known (c .before .before)
-
-abbrev else1-of-else2 : tie.Else2 → tie.Else1
-else1-of-else2 c = c .before .before
-
-abbrev start-of-else2 : tie.Else2 → tie.Start
-start-of-else2 c = start-of-else1 (else1-of-else2 c)
-
-abbrev start-of-else3 : tie.Else3 → tie.Start
-start-of-else3 c = start-of-else2 (c .before)
-
--- 13 does not refuse it
-ranged : (c : tie.Else1) → inRange (start-of-else1 c .args .p) ≡ true
-ranged c = sym (c .before .in-range .ensures) ∙ not-not _ (c .if1 .left)
-
--- nor 9
-classed : (c : tie.Else2) → isClass (start-of-else2 c .args .p) (start-of-else2 c .args .class) ≡ true
-unfolding isClass
-classed c = sym (c .before .is-class .ensures) ∙ not-not _ (c .if2 .left)
-
--- nor 17
-fourfold : (c : tie.Else3)
-    → length (start-of-else3 c .args .log .now) ≡ 4 * length (start-of-else3 c .args .trace .now)
-fourfold c =
-    let a = start-of-else3 c .args in
-    eqb-true (length (a .log .now)) (4 * length (a .trace .now)) (not-not _ (sym (four-times (length (a .log .now)) (length (a .trace .now))) ∙ c .if3 .left))
-
-in-range-requires : tie.Need-in-range-requires
-in-range-requires c κs = search needs
-
-returns : tie.Need-returns
-returns c =
-    let a = start-of-then1 c .args in
-    refused (a .p) (a .class) (a .trace .now) (a .log .now) (a .out .now) 13 refl
-    (refused-13 (a .p) (a .class) (a .trace .now) (a .log .now) (a .out .now) (sym (c .before .in-range .ensures) ∙ not-true _ (c .if1 .taken)))
 
 is-class-requires : tie.Need-is-class-requires
 is-class-requires c κs = search needs
 
-returns-2 : tie.Need-returns-2
-unfolding isClass
-returns-2 c =
-    let fit = c .before .before in
-    let a = start-of-else1 fit .args in
-    refused (a .p) (a .class) (a .trace .now) (a .log .now) (a .out .now) 9 refl
-    (refused-9 (a .p) (a .class) (a .trace .now) (a .log .now) (a .out .now) (ranged fit) (sym (c .before .is-class .ensures) ∙ not-true _ (c .if2 .taken)))
+class-mask-requires : tie.Need-class-mask-requires
+class-mask-requires c κs = search needs
 
-returns-3 : tie.Need-returns-3
-returns-3 c =
-    let small = c .before in
-    let fit = else1-of-else2 small in
-    let a = start-of-else1 fit .args in
-    refused (a .p) (a .class) (a .trace .now) (a .log .now) (a .out .now) 17 refl
-    (refused-17 (a .p) (a .class) (a .trace .now) (a .log .now) (a .out .now) (ranged fit) (classed small)
-    (not-true _ (sym (four-times (length (a .log .now)) (length (a .trace .now))) ∙ c .if3 .taken)))
+cast-seen-by : tie.Need-cast-seen-by
+cast-seen-by c = search needs
 
 seen-by-requires : tie.Need-seen-by-requires
 seen-by-requires c κs = search needs
 
-kept-requires : tie.Need-kept-requires
-kept-requires c κs = search needs
-
-mul-count : tie.Need-mul-count
-mul-count c =
-    let long = c .before .before in
-    let a = start-of-else3 long .args in
-    omega (arith, c .kept .ensures, kept-le (member (c .before .seen-by .result)) (a .trace .now), fourfold long)
-
-returns-4 : tie.Need-returns-4
-returns-4 c =
-    let long = c .before .before .before in
-    let small = long .before in
-    let fit = else1-of-else2 small in
-    let a = start-of-else1 fit .args in
-    let count = count-is (a .p) (ranged fit) (a .class) (c .before .before .seen-by .ensures) (a .trace .now) (a .log .now) (c .before .kept .ensures) in
-    refused (a .p) (a .class) (a .trace .now) (a .log .now) (a .out .now) 16 refl
-    (refused-16 (a .p) (a .class) (a .trace .now) (a .log .now) (a .out .now) (ranged fit) (classed small) (fourfold long) (omega (arith, count, c .if4 .taken)))
-
-write-requires : tie.Need-write-requires
-write-requires c κs =
-    let kept = c .before .before in
-    let seen-by = kept .before in
-    let long = seen-by .before in
-    let fit = long .before .before .before in
-    let a = start-of-else1 fit .args in
-    let is = kept-is (a .p) (ranged fit) (a .class) (seen-by .seen-by .ensures) (a .trace .now) (a .log .now) in
-    let count = count-is (a .p) (ranged fit) (a .class) (seen-by .seen-by .ensures) (a .trace .now) (a .log .now) (kept .kept .ensures) in
-    (fourfold long, omega (arith, ap length is, count, c .before .if4 .left))
+extract-seen-requires : tie.Need-extract-seen-requires
+extract-seen-requires c κs = search needs
 
 same-length : tie.Need-same-length
 same-length c = search needs
 
-returns-5 : tie.Need-returns-5
-returns-5 c =
-    let wrote = c .before .before in
-    let room = wrote .before .before in
-    let kept = room .before in
-    let seen-by = kept .before in
-    let long = seen-by .before in
-    let small = long .before in
-    let fit = else1-of-else2 small in
-    let a = start-of-else1 fit .args in
-    let is = kept-is (a .p) (ranged fit) (a .class) (seen-by .seen-by .ensures) (a .trace .now) (a .log .now) in
-    let count = count-is (a .p) (ranged fit) (a .class) (seen-by .seen-by .ensures) (a .trace .now) (a .log .now) (kept .kept .ensures) in
-    let none : extractStatus (a .p) (a .class) (a .trace .now) (a .log .now) (a .out .now) ≡ 0 =
-    not-refused (a .p) (a .class) (a .trace .now) (a .log .now) (a .out .now) (ranged fit) (classed small) (fourfold long) (omega (arith, count, room .if4 .left))
-    in (
-      taken (a .p) (a .class) (a .trace .now) (a .log .now) (a .out .now) none count,
-      wrote .write .ensures
-          ∙ ap (λ (l : List ℕ). l ++ drop (length l) (a .out .now)) is
-          ∙ written (a .p) (a .class) (a .trace .now) (a .log .now) (a .out .now) none,
+returns : tie.Need-returns
+unfolding extract outAfter isClass
+returns c =
+    let at = c .before .before in
+    let seen = at .before .before in
+    let mask = seen .before in
+    let asked = mask .before in
+    let a = asked .before .before .before .before .args in
+    let p = a .p in
+    let l = a .class in
+    let named = asked .is-class .ensures in
+    let set = ap member (seen .seen-by .ensures ∙ ap (λ (m : ℕ). setOf 16 (seenByAny p m)) (mask .class-mask .ensures)) in
+    let same = same-answers p (isClass p l) (a .trace .now) (a .log .now) (a .out .now) (member (setOf 16 (seenByAny p (classMask l)))) (seenBy p l) (λ given class. seen-masked p given l class) in (
+      at .extract-seen .ensures .0 ∙ ap₂ (λ (b : Bool) (f : ℕ → Bool). seenAnswer p b f (a .trace .now) (a .log .now) (a .out .now)) named set ∙ same .0,
+      at .extract-seen .ensures .1 ∙ ap₂ (λ (b : Bool) (f : ℕ → Bool). seenOut p b f (a .trace .now) (a .log .now) (a .out .now)) named set ∙ same .1,
     )
 
 pub extract-spec : {M : Type 1} → statement M
 extract-spec =
     tie.close
     (tie.spec
-    in-range-requires
-    returns
     is-class-requires
-    returns-2
-    returns-3
+    class-mask-requires
+    cast-seen-by
     seen-by-requires
-    kept-requires
-    mul-count
-    returns-4
-    write-requires
+    extract-seen-requires
     same-length
-    returns-5)
+    returns)

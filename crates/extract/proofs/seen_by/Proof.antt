@@ -1,4 +1,4 @@
--- `extract::seen_by` meets its contract. The invariant: the set is that of the classes below `c` which may flow to the class.
+-- `extract::seen_by` meets its contract. The invariant: the set is that of the classes below `c` which may flow to a member.
 -- Assumes nothing.
 use mathlib.Core.Path.{_≡_, refl, sym, ap, _∙_}
 use mathlib.Core.Logic.{⊎-elim}
@@ -13,7 +13,7 @@ use lib.Pow.{pow-mono}
 use Rattle.basics.specs.Below.{sum, setOf}
 use Rattle.masks.specs.Mask.{classMask}
 use Rattle.masks.proofs.Masks.{setOf-below}
-use Rattle.extract.specs.Seen.{seenBy}
+use Rattle.extract.specs.Seen.{seenByAny}
 use Rattle.extract.proofs.seen_by.Statement.{statement}
 use Rattle.extract.proofs.seen_by.Tie as tie
 
@@ -31,36 +31,35 @@ unfolding classMask
 mask-is c h = rw (lt-ltb c 16 h)
 
 abbrev Inv-loop : tie.InvT-loop
-Inv-loop p class seen₀ c₀ seen c = (seen ≡ setOf c (seenBy p class)) × (c ≤ 16)
+Inv-loop p set seen₀ c₀ seen c = (seen ≡ setOf c (seenByAny p set)) × (c ≤ 16)
 
 abbrev μ-loop : tie.MeasureT-loop
-μ-loop p class seen₀ c₀ seen c = 16 - c
+μ-loop p set seen₀ c₀ seen c = 16 - c
 
--- the places that the answers look back to: `loop-of-flows` is `At-loop`, seen from `After-flows`
-abbrev loop-of-flows : tie.After-flows Inv-loop μ-loop → tie.At-loop Inv-loop μ-loop
-loop-of-flows c = c .before .before
+-- the places that the answers look back to: `loop-of-flows-to-any` is `At-loop`, seen from `After-flows-to-any`
+abbrev loop-of-flows-to-any : tie.After-flows-to-any Inv-loop μ-loop → tie.At-loop Inv-loop μ-loop
+loop-of-flows-to-any c = c .before .before
 
 loop-holds : tie.Need-loop-holds Inv-loop μ-loop
 unfolding setOf sum
 loop-holds c = (refl, omega arith)
 
-flows-requires : tie.Need-flows-requires Inv-loop μ-loop
-flows-requires c κs = search needs
+flows-to-any-requires : tie.Need-flows-to-any-requires Inv-loop μ-loop
+flows-to-any-requires c κs = search needs
 
 class-mask-requires : tie.Need-class-mask-requires Inv-loop μ-loop
 class-mask-requires c κs = search needs
 
 add-seen : tie.Need-add-seen Inv-loop μ-loop
-unfolding seenBy
 add-seen c =
     let flowed = c .before .before in
-    let at = loop-of-flows flowed in
+    let at = loop-of-flows-to-any flowed in
     let start = at .before in
-    let f = seenBy (start .args .p) (start .args .class) in
+    let f = seenByAny (start .args .p) (start .args .set) in
     let k = at .loop .c in
     let small : k < 16 = flowed .before .loop-test .taken in
     let mask : c .class-mask .result ≡ 2 ^ k = c .class-mask .ensures ∙ mask-is k small in
-    let more : setOf (k + 1) f ≡ setOf k f + 2 ^ k = set-more f k (sym (flowed .flows .ensures) ∙ c .before .if1 .taken) in
+    let more : setOf (k + 1) f ≡ setOf k f + 2 ^ k = set-more f k (sym (flowed .flows-to-any .ensures) ∙ c .before .if1 .taken) in
     let next : k + 1 ≤ 16 = omega arith in
     let fits : setOf (k + 1) f < 2 ^ 16 = lt-of-lt-of-le (setOf-below f (k + 1)) (pow-mono next) in
     omega (arith, mask, more, fits, at .loop .inv .0)
@@ -72,20 +71,19 @@ loop-less : tie.Need-loop-less Inv-loop μ-loop
 loop-less c = search needs
 
 loop-again : tie.Need-loop-again Inv-loop μ-loop
-unfolding seenBy
 loop-again c =
     let flowed = c .before in
-    let at = loop-of-flows flowed in
+    let at = loop-of-flows-to-any flowed in
     let start = at .before in
-    let f = seenBy (start .args .p) (start .args .class) in
+    let f = seenByAny (start .args .p) (start .args .set) in
     let k = at .loop .c in
     let small : k < 16 = flowed .before .loop-test .taken in (
       ⊎-elim
           (λ w.
           let mask : w .1 .result ≡ 2 ^ k = w .1 .ensures ∙ mask-is k small in
-          let more : setOf (k + 1) f ≡ setOf k f + 2 ^ k = set-more f k (sym (flowed .flows .ensures) ∙ w .0 .taken) in
+          let more : setOf (k + 1) f ≡ setOf k f + 2 ^ k = set-more f k (sym (flowed .flows-to-any .ensures) ∙ w .0 .taken) in
           w .2 ∙ omega (arith, mask, more, at .loop .inv .0))
-          (λ w. w .1 ∙ at .loop .inv .0 ∙ sym (set-same f k (sym (flowed .flows .ensures) ∙ w .0 .left)))
+          (λ w. w .1 ∙ at .loop .inv .0 ∙ sym (set-same f k (sym (flowed .flows-to-any .ensures) ∙ w .0 .left)))
           (c .if1 .came),
       omega arith,
     )
@@ -95,7 +93,7 @@ returns c =
     let loop = c .before in
     let start = loop .before in
     let end : loop .loop .c ≡ 16 = omega arith in
-    loop .loop .inv .0 ∙ ap (λ (k : ℕ). setOf k (seenBy (start .args .p) (start .args .class))) end
+    loop .loop .inv .0 ∙ ap (λ (k : ℕ). setOf k (seenByAny (start .args .p) (start .args .set))) end
 
 pub seen-by-spec : {M : Type 1} → statement M
 seen-by-spec =
@@ -104,7 +102,7 @@ seen-by-spec =
     Inv-loop
     μ-loop
     loop-holds
-    flows-requires
+    flows-to-any-requires
     class-mask-requires
     add-seen
     add-c

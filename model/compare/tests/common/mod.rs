@@ -15,6 +15,7 @@ use std::thread;
 use std::time::{Duration, Instant};
 
 use vigambul_compare::{built, stream};
+use vigambul_model::class_set::ClassSet;
 use vigambul_model::coverage::{Count, Coverage};
 use vigambul_model::generate::{self, PolicyFields};
 use vigambul_model::policy::{self, Policy};
@@ -42,6 +43,8 @@ pub struct Case {
     pub seed: u64,
     pub policy: Option<Vec<u8>>,
     pub trace: Option<Vec<u8>>,
+    /// Sets of classes to ask extracts for.
+    pub sets: Vec<ClassSet>,
     /// What was done to the generated folder.
     pub change: &'static str,
     /// What was done to its policy, which is in that folder still.
@@ -94,6 +97,7 @@ impl Case {
             damage: folder.damage.filter(|_| policy.is_some()),
             policy,
             trace,
+            sets: folder.sets,
             change,
         }
     }
@@ -112,6 +116,7 @@ impl Case {
         generate::Folder {
             policy: self.policy_bytes().to_vec(),
             trace: self.trace_bytes().to_vec(),
+            sets: self.sets.clone(),
             damage: self.damage,
         }
     }

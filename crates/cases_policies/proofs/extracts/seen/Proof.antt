@@ -16,9 +16,6 @@ Inv-loop text l c out at₀ at = 0 ≤ at
 abbrev μ-loop : tie.MeasureT-loop
 μ-loop text l c out at₀ at = out .count - at
 
-number-at-requires : tie.Need-number-at-requires Inv-loop μ-loop
-number-at-requires c κs = search needs
-
 extract-of-requires : tie.Need-extract-of-requires Inv-loop μ-loop
 extract-of-requires c κs = search needs
 
@@ -34,8 +31,8 @@ words-requires c κs = search needs
 loop-holds : tie.Need-loop-holds Inv-loop μ-loop
 loop-holds c = search needs
 
-number-at-requires-2 : tie.Need-number-at-requires-2 Inv-loop μ-loop
-number-at-requires-2 c κs = search needs
+number-at-requires : tie.Need-number-at-requires Inv-loop μ-loop
+number-at-requires c κs = search needs
 
 cell-requires : tie.Need-cell-requires Inv-loop μ-loop
 cell-requires c κs = search needs
@@ -58,13 +55,12 @@ seen-spec =
     (tie.spec
     Inv-loop
     μ-loop
-    number-at-requires
     extract-of-requires
     answered-requires
     slice-aggregate-words
     words-requires
     loop-holds
-    number-at-requires-2
+    number-at-requires
     cell-requires
     add-at
     loop-less

@@ -52,12 +52,13 @@ enum vigambul_refusal {
     VIGAMBUL_REFUSED_CLASS = 9,       /* class not below n, or a set of classes with such a class */
     VIGAMBUL_REFUSED_BANK_KIND = 10,  /* bank above 7, kind above 1, or a rank other than 0 with ten timing bytes */
     VIGAMBUL_REFUSED_QUEUE = 11,      /* 8 requests of that class wait */
-    VIGAMBUL_REFUSED_LAST_TICK = 12,  /* a tick after 16,777,215 ticks */
+    VIGAMBUL_REFUSED_LAST_TICK = 12,  /* a tick after 16,777,215 ticks; of a log to record, if by its start it has such a tick */
     VIGAMBUL_REFUSED_RANGE = 13,      /* a state or policy handed in has numbers out of range (none of these functions is handed one) */
     VIGAMBUL_REFUSED_MALFORMED = 14,  /* a trace number of neither form */
     VIGAMBUL_REFUSED_LOG = 15,        /* log shorter than 4 times the trace */
-    VIGAMBUL_REFUSED_ROOM = 16,       /* extract shorter than what is kept */
-    VIGAMBUL_REFUSED_LOG_LENGTH = 17  /* log to extract not 4 times the trace */
+    VIGAMBUL_REFUSED_ROOM = 16,       /* extract shorter than what is kept, or a recording than what is recorded */
+    VIGAMBUL_REFUSED_LOG_LENGTH = 17, /* log to extract or to record not 4 times the trace */
+    VIGAMBUL_REFUSED_RECORDING = 18   /* a recording with an odd length, a cycle not above the one before, or a due cycle past 32 bits */
 };
 
 #ifdef __cplusplus
@@ -106,6 +107,39 @@ size_t vigambul_extract_set(const uint8_t *policy, size_t policy_len, uint32_t c
  * Puts into status 0; or 1 to 8, the number that refuses the file; or 9, if class_ is none of the policy's classes. Where status is anything but 0, the answer is 0.
  */
 uint32_t vigambul_walk_bound(const uint8_t *policy, size_t policy_len, uint32_t class_, uint32_t *status);
+
+/* Holds two recordings together: of the activates on the command wires, and of the answers at the cores. A recording is cycle, word, cycle, word: two numbers for each event, which
+ * may hold anything. An activate and an answer are partners if their words are equal and the answer's cycle is delay above the activate's. An activate's answer is due delay after it,
+ * an answer at its own cycle; events are taken in the order of these due cycles, an activate before an answer where a due cycle is shared but the words differ. The rest is that of
+ * the recording which holds the first event without a partner, beginning at it.
+ *
+ * Answers 0; or 18, if a recording has an odd length, a cycle not above the one before it, or (the wires alone) a cycle that with delay added is above 2^32 - 1. Two recordings of no
+ * events are sound. Always puts numbers into which and at. Where the answer is 0: into which 1, if the first event without a partner is an activate, 2, if it is an answer, and 0, if
+ * all have partners; into at the place in that recording where the rest begins (that of the event's cycle, an even number), and wires_len, if all have partners. Where it is 18: into
+ * which the unsound recording, 1 the wires, 2 the cores, and 1 if both are; into at wires_len, whichever it is.
+ */
+uint32_t vigambul_match(const uint32_t *wires, size_t wires_len,
+                        const uint32_t *cores, size_t cores_len,
+                        uint8_t delay, uint32_t *which, size_t *at);
+
+/* Writes the wires' recording of a log to the start of wires, so that a lab's can be held against it: cycle and word of each activate. The log is the trace's, four numbers for each
+ * trace number, and may hold anything; start is the number of ticks that were made before it. Its ticks are the trace numbers of 0 whose status in the log is 0, and their cycles are
+ * start, start + 1 and so on; a tick that is refused has none, and no line that is not a tick's is looked at. An activate is a command that is not 0 and has bit 30 clear.
+ *
+ * Answers 0; or 17, if log_len is not 4 times trace_len; or 12, if start plus the number of ticks is above 16,777,215; or 16, if wires_len is less than what is recorded. They are
+ * asked in this order. Always puts into count how many numbers it wrote, two for each activate; where the answer is anything but 0, the count is 0 and nothing is written. Numbers of
+ * wires past the count stay as they are. 2 times trace_len is always enough for wires. What it writes is sound for vigambul_match under every delay.
+ */
+uint32_t vigambul_wires(const uint32_t *trace, size_t trace_len,
+                        const uint32_t *log, size_t log_len, uint32_t start,
+                        uint32_t *wires, size_t wires_len, size_t *count);
+
+/* The same for the cores' recording: cycle and word of each answer that is not 0. Where nothing is in flight at both ends of a stretch of a run's log, its two recordings match fully
+ * under its policy's answer delay: vigambul_match answers 0 with 0 in which.
+ */
+uint32_t vigambul_cores(const uint32_t *trace, size_t trace_len,
+                        const uint32_t *log, size_t log_len, uint32_t start,
+                        uint32_t *cores, size_t cores_len, size_t *count);
 
 #ifdef __cplusplus
 }

@@ -1,5 +1,5 @@
-//! Links the static library with `vigambul_run`, `vigambul_extract`, `vigambul_extract_set` and
-//! `vigambul_walk_bound`.
+//! Links the static library with `vigambul_run`, `vigambul_extract`, `vigambul_extract_set`,
+//! `vigambul_walk_bound`, `vigambul_match`, `vigambul_wires` and `vigambul_cores`.
 
 use std::path::{Path, PathBuf};
 use std::process::exit;

@@ -14,13 +14,15 @@
 //! | Trace and log                      | [`trace`]               |
 //! | The extract                        | [`extract`]             |
 //! | Sets of classes of W-211           | [`class_set`]           |
+//! | Recordings of W-204                | [`recordings`]          |
 //! | Two lists side by side             | [`leaks`], [`pairs`]    |
 //! | Promises of document 02            | [`promises`]            |
 //! | The program                        | [`program`]             |
 //! | What is turned down                | [`refusal`]             |
 //!
 //! [`generate`] makes policies and traces from a seed, [`coverage`] counts
-//! what they exercise, [`random`] is the source of chance of both, [`reader`] is
+//! what they exercise, [`generate_recordings`] makes pairs of recordings and says of what
+//! kinds they are, [`random`] is the source of chance of all, [`reader`] is
 //! W-203's rule, with W-206's gaps, as a reader of trace and log sees it, and [`planted`]
 //! holds wrong rules, of which the searches for leaks and for broken promises must find
 //! those that leak or break one; [`altered`] holds the faults by which the comparison of
@@ -37,6 +39,7 @@ pub mod coverage;
 pub mod dead_time;
 pub mod extract;
 pub mod generate;
+pub mod generate_recordings;
 pub mod leaks;
 pub mod masks;
 pub mod met;
@@ -47,6 +50,7 @@ pub mod program;
 pub mod promises;
 pub mod random;
 pub mod reader;
+pub mod recordings;
 pub mod refusal;
 pub mod state;
 pub mod tick;

@@ -16,6 +16,10 @@ usage:
   vigambul-model run DIR          print the log of DIR/trace.bin under DIR/policy.bin
   vigambul-model extract SET DIR  print the extract of that log for a class or a set of classes:
                                   a class (2), several with commas between (1,2), or none
+  vigambul-model recordings START DIR
+                                  print the two recordings of that log, if it begins at cycle START
+  vigambul-model match DELAY DIR  hold DIR/wires.bin against DIR/cores.bin, a missing one as empty, and
+                                  print status, which recording and where the rest begins, and the rest
   vigambul-model generate SEED DIR
                                   write a policy.bin and a trace.bin made from SEED into DIR
   vigambul-model leaks COUNT      search COUNT pairs of lists for leaks to a class, and as many
@@ -24,7 +28,8 @@ usage:
 
 The exit status is 0 if the command did its work (a refusal that is printed is
 part of it), 1 if a file cannot be read or written or a leak is found, and 2 if
-the arguments are wrong or DIR or a file of it that is to be read is missing.
+the arguments are wrong or DIR or a file of it that is to be read is missing
+(a recording apart).
 ";
 
 /// What the arguments ask for.
@@ -32,6 +37,8 @@ enum Command {
     Help,
     Run { dir: PathBuf },
     Extract { classes: ClassSet, dir: PathBuf },
+    Recordings { start: u32, dir: PathBuf },
+    Match { delay: u8, dir: PathBuf },
     Generate { seed: u64, dir: PathBuf },
     Leaks { count: u64 },
 }
@@ -90,6 +97,14 @@ fn parse(arguments: &[OsString]) -> Result<Command, String> {
             )?,
             dir: dir(),
         }),
+        ["recordings", start, _] => Ok(Command::Recordings {
+            start: value("START", "a whole number of 32 bits", start)?,
+            dir: dir(),
+        }),
+        ["match", delay, _] => Ok(Command::Match {
+            delay: value("DELAY", "a whole number from 0 to 255", delay)?,
+            dir: dir(),
+        }),
         ["generate", seed, _] => Ok(Command::Generate {
             seed: number("SEED", seed)?,
             dir: dir(),
@@ -99,7 +114,7 @@ fn parse(arguments: &[OsString]) -> Result<Command, String> {
             count => Ok(Command::Leaks { count }),
         },
         [] => Err("a command is missing".to_string()),
-        ["run" | "extract" | "generate" | "leaks", ..] => {
+        ["run" | "extract" | "recordings" | "match" | "generate" | "leaks", ..] => {
             Err(format!("wrong number of arguments for {}", words[0]))
         }
         [other, ..] => Err(format!("unknown command {other}")),
@@ -126,6 +141,14 @@ fn perform(command: Command) -> Result<ExitCode, Trouble> {
             let (policy, trace) = read_folder(&dir)?;
             Ok(print(&program::extract_output(classes, &policy, &trace))?)
         }
+        Command::Recordings { start, dir } => {
+            let (policy, trace) = read_folder(&dir)?;
+            Ok(print(&program::recordings_output(start, &policy, &trace))?)
+        }
+        Command::Match { delay, dir } => {
+            let [wires, cores] = read_recordings(&dir)?;
+            Ok(print(&program::match_output(delay, &wires, &cores))?)
+        }
         Command::Generate { seed, dir } => {
             let folder = generate::folder(seed);
             fs::create_dir_all(&dir)
@@ -149,11 +172,29 @@ fn perform(command: Command) -> Result<ExitCode, Trouble> {
 /// Document 01's program reads a missing file as empty. Here the folder is named by the user, so what
 /// is missing is more likely a slip, and is told.
 fn read_folder(dir: &Path) -> Result<(Vec<u8>, Vec<u8>), Trouble> {
-    if !dir.exists() {
-        let message = format!("there is no folder {}", dir.display());
-        return Err(Trouble::missing(message));
-    }
+    has_folder(dir)?;
     Ok((read(dir, "policy.bin")?, read(dir, "trace.bin")?))
+}
+
+/// A lab may have made one recording alone, and what is missing in the other is what it asks: a
+/// missing file is read as empty. A missing folder is told here too.
+fn read_recordings(dir: &Path) -> Result<[Vec<u8>; 2], Trouble> {
+    has_folder(dir)?;
+    let read_if_there = |name: &str| match dir.join(name).exists() {
+        true => read(dir, name),
+        false => Ok(Vec::new()),
+    };
+    Ok([read_if_there("wires.bin")?, read_if_there("cores.bin")?])
+}
+
+fn has_folder(dir: &Path) -> Result<(), Trouble> {
+    match dir.exists() {
+        true => Ok(()),
+        false => {
+            let message = format!("there is no folder {}", dir.display());
+            Err(Trouble::missing(message))
+        }
+    }
 }
 
 fn read(dir: &Path, name: &str) -> Result<Vec<u8>, Trouble> {

@@ -5,8 +5,8 @@
 /// Which wrong rule is in place.
 #[derive(Clone, Copy, Debug, Default, PartialEq, Eq)]
 pub enum Planted {
-    /// None: the rules of document 01 with W-201, W-202, W-203, W-206, W-211 and W-212. Every
-    /// tick, run, extract and program uses this.
+    /// None: the rules of document 01 with W-201 to W-204, W-206, W-211 and W-212. Every tick, run,
+    /// extract, recording and program uses this.
     #[default]
     Nothing,
     /// The dead time is always dropped.
@@ -171,7 +171,37 @@ pub enum Planted {
     /// and then 9. Two lists that agree for those others get the same: it is a wrong order, and
     /// no leak. A comparison of the refusals tells.
     RoomBeforeClass,
+    /// Where an activate's answer is due in the cycle of an answer with another word, W-204's check
+    /// takes the answer first.
+    AnswerTakenFirst,
+    /// In a sound recording of W-204's a cycle may be the one before.
+    CyclesMayRepeat,
+    /// Where both of W-204's recordings are unsound, the cores' is named.
+    CoresNamedFirst,
+    /// The rest that W-204's check hands back begins after the first event without a partner.
+    RestOneEventLate,
+    /// W-204's recording of the wires has column commands too.
+    ColumnsAsActivates,
+    /// In W-204's recordings of a log a tick that was refused has a cycle, as if it were made.
+    RefusedTicksCounted,
+    /// In W-204's recordings of a log an offer that was taken has a cycle, as if it were a tick.
+    OffersCountedAsTicks,
 }
+
+/// Every wrong rule of W-204's check. A search of pairs of recordings finds them.
+pub const WRONG_CHECKS: [Planted; 4] = [
+    Planted::AnswerTakenFirst,
+    Planted::CyclesMayRepeat,
+    Planted::CoresNamedFirst,
+    Planted::RestOneEventLate,
+];
+
+/// Every wrong rule of W-204's recordings of a log. A search of runs finds them.
+pub const WRONG_RECORDINGS: [Planted; 3] = [
+    Planted::ColumnsAsActivates,
+    Planted::RefusedTicksCounted,
+    Planted::OffersCountedAsTicks,
+];
 
 /// Every wrong rule of W-211's that leaks. For one class each of them is right: only pairs of lists
 /// that agree for a set show it.

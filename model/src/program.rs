@@ -5,6 +5,7 @@ use std::io::Write;
 use crate::class_set::ClassSet;
 use crate::extract::extract_set;
 use crate::policy::{self, Policy};
+use crate::recordings::{match_recordings, recording, rest, Recording, EVENT};
 use crate::refusal::Refusal;
 use crate::state;
 use crate::trace::{self, LINE};
@@ -16,6 +17,9 @@ pub const ENDS_INSIDE_WORD: &[u8] = b"trace ends inside a word\n";
 /// "A refused policy prints only `policy refused` and the number".
 const POLICY_REFUSED: &str = "policy refused";
 const EXTRACT_REFUSED: &str = "extract refused";
+/// The lines above what W-204's check says, and above events.
+const MATCH_HEADER: &str = "status which at";
+const EVENTS_HEADER: &str = "cycle word";
 
 /// A trace file: its numbers, "low byte first", and the count of left-over
 /// bytes.
@@ -69,6 +73,56 @@ pub fn extract_output(classes: ClassSet, policy_bytes: &[u8], trace_bytes: &[u8]
         }
         Err(refusal) => refused("run refused", refusal),
     }
+}
+
+/// What W-204's check says of two recordings, which lie in files like a trace: the status, which
+/// recording and where in it the rest begins, and the rest. The numbers are printed as a log's are.
+pub fn match_output(delay: u8, wires_bytes: &[u8], cores_bytes: &[u8]) -> Vec<u8> {
+    let files = [wires_bytes, cores_bytes].map(read_trace);
+    let [wires, cores] = files.each_ref().map(|file| file.numbers.as_slice());
+    let matched = match_recordings(wires, cores, delay);
+    let which = matched.which.map_or(0, Recording::number);
+    let (status, at) = (matched.status, matched.at);
+    let mut text = format!("{MATCH_HEADER}\n{status:08X} {which:08X} {at:08X}\n");
+    text += &print_events(rest(wires, cores, delay));
+    for (file, name) in files.iter().zip(["wires", "cores"]) {
+        if file.left_over > 0 {
+            text += &format!("{name} end inside a word\n");
+        }
+    }
+    text.into_bytes()
+}
+
+/// The two recordings of that run's log, if it begins at a cycle.
+pub fn recordings_output(start: u32, policy_bytes: &[u8], trace_bytes: &[u8]) -> Vec<u8> {
+    let (policy, refusal) = policy::read(policy_bytes);
+    if let Some(refusal) = refusal {
+        return refused(POLICY_REFUSED, refusal);
+    }
+    let trace = read_trace(trace_bytes);
+    let log = match run_from_fresh(&policy, &trace.numbers) {
+        Ok(log) => log,
+        Err(refusal) => return refused("run refused", refusal),
+    };
+    let mut text = String::new();
+    for (of, name) in Recording::BOTH.into_iter().zip(["wires", "cores"]) {
+        let mut out = vec![0; EVENT * trace.numbers.len()];
+        match recording(of, &trace.numbers, &log, start, &mut out) {
+            (count, None) => text += &format!("{name}\n{}", print_events(&out[..count])),
+            (_, Some(refusal)) => return refused("recordings refused", refusal),
+        }
+    }
+    let mut text = text.into_bytes();
+    if trace.left_over > 0 {
+        text.extend_from_slice(ENDS_INSIDE_WORD);
+    }
+    text
+}
+
+fn print_events(numbers: &[u32]) -> String {
+    let line = |event: &[u32]| format!("{:08X} {:08X}\n", event[0], event[1]);
+    let lines: String = numbers.chunks_exact(EVENT).map(line).collect();
+    format!("{EVENTS_HEADER}\n{lines}")
 }
 
 fn run_from_fresh(policy: &Policy, trace: &[u32]) -> Result<Vec<u32>, Refusal> {

@@ -1,4 +1,5 @@
-//! "What is turned down": the table of document 01, number by number.
+//! "What is turned down": the table of document 01, number by number, with those that document 02
+//! adds.
 
 /// A refusal (document 01: what is turned down). The value of each case is its
 /// number in the table.
@@ -27,7 +28,8 @@ pub enum Refusal {
     BankOrKind = 10,
     /// "8 requests of that class wait"
     QueueFull = 11,
-    /// "a tick after 16,777,215 ticks"
+    /// "a tick after 16,777,215 ticks"; of a log that W-204's recordings are made of, one that has
+    /// such a tick by the cycle at which it begins.
     NoMoreTicks = 12,
     /// "a state or policy handed in has numbers out of range"
     OutOfRange = 13,
@@ -35,10 +37,13 @@ pub enum Refusal {
     Malformed = 14,
     /// "log shorter than 4 times the trace"
     LogTooShort = 15,
-    /// "extract shorter than what is kept"
+    /// "extract shorter than what is kept", or too little room for one of W-204's recordings
     ExtractTooShort = 16,
-    /// "log to extract not 4 times the trace"
+    /// "log to extract not 4 times the trace", or a log to make W-204's recordings of
     LogNotOfTrace = 17,
+    /// W-204: "A recording with an odd length, a cycle not above the one before, or a due cycle past
+    /// 32 bits"
+    Recording = 18,
 }
 
 impl Refusal {

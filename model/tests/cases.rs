@@ -1,9 +1,12 @@
-//! The proved test programs `cases_policies` and `cases_calls`: what each prints is stored beside it,
-//! and each stored line is held against the model's own answer for the case that the line names.
+//! The proved test programs `cases_policies`, `cases_calls` and `cases_recordings`: what each prints is
+//! stored beside it, and each stored line is held against the model's own answer for the case that the
+//! line names.
 
 mod common;
 #[path = "cases/ranks.rs"]
 mod ranks;
+#[path = "cases/recordings.rs"]
+mod recordings;
 #[path = "cases/sets.rs"]
 mod sets;
 #[path = "cases/walk.rs"]
@@ -1091,7 +1094,8 @@ fn the_proved_program_answers_as_the_model_does() {
         "cases_calls",
         &[calls(), runs(), ranks::calls(), walk::calls()].concat(),
     );
-    assert_eq!((policies, calls), (1513, 1435));
+    let recordings = compare("cases_recordings", &recordings::recordings());
+    assert_eq!((policies, calls, recordings), (1513, 1435, 74));
 }
 
 #[test]

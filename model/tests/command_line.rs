@@ -123,7 +123,7 @@ fn a_missing_folder_or_file_is_told() {
         (no_policy.path(), "file", policy_of(&no_policy)),
         (no_trace.path(), "file", no_trace.path().join("trace.bin")),
     ] {
-        for command in [&["run"][..], &["extract", "0"]] {
+        for command in [&["run"][..], &["extract", "0"], &["recordings", "0"]] {
             let output = call(command, Some(folder));
             assert_eq!(output.status.code(), Some(2), "{command:?}");
             assert_eq!(text(&output.stdout), "");
@@ -246,6 +246,118 @@ fn a_refused_policy_is_told_before_a_set() {
     }
 }
 
+/// Document 01's log has one activate, at its first tick, and its answer two ticks later.
+#[test]
+fn recordings_prints_both_of_a_log() {
+    let mut trace = trace_bytes(&PRINTED_TRACE);
+    trace.push(0);
+    let folder = Folder::new("recordings")
+        .with("policy.bin", &PRINTED_POLICY)
+        .with("trace.bin", &trace);
+    let expected = |cycles: [&str; 2]| {
+        let [wires, cores] = cycles;
+        format!(
+            "wires\ncycle word\n{wires} 80010007\ncores\ncycle word\n{cores} 80010007\n\
+             trace ends inside a word\n"
+        )
+    };
+    for (start, cycles) in [
+        ("0", ["00000000", "00000002"]),
+        ("100", ["00000064", "00000066"]),
+        ("16777212", ["00FFFFFC", "00FFFFFE"]),
+    ] {
+        assert_eq!(
+            printed(&["recordings", start], &folder),
+            expected(cycles),
+            "{start}"
+        );
+    }
+    for start in ["16777213", "4294967295"] {
+        let refused = "recordings refused 12\n";
+        assert_eq!(printed(&["recordings", start], &folder), refused, "{start}");
+    }
+    let no_policy = Folder::new("recordings-refused")
+        .with("policy.bin", &[3])
+        .with("trace.bin", &[]);
+    assert_eq!(
+        printed(&["recordings", "0"], &no_policy),
+        "policy refused 1\n"
+    );
+}
+
+#[test]
+fn match_prints_where_the_rest_begins_and_the_rest() {
+    let word = 0x8001_0007;
+    let wires = trace_bytes(&[0, word, 4, word, 9, word]);
+    // The second answer was dropped.
+    let cores = trace_bytes(&[2, word, 11, word]);
+    let dropped = "status which at\n\
+        00000000 00000001 00000002\n\
+        cycle word\n\
+        00000004 80010007\n\
+        00000009 80010007\n";
+    let both = Folder::new("match")
+        .with("wires.bin", &wires)
+        .with("cores.bin", &cores);
+    assert_eq!(printed(&["match", "2"], &both), dropped);
+    // The first answer comes before the first activate's would.
+    let early = "status which at\n\
+        00000000 00000002 00000000\n\
+        cycle word\n\
+        00000002 80010007\n\
+        0000000B 80010007\n";
+    assert_eq!(printed(&["match", "255"], &both), early);
+
+    let full = "status which at\n00000000 00000000 00000006\ncycle word\n";
+    let late = trace_bytes(&[2, word, 6, word, 11, word]);
+    let both = both.with("cores.bin", &late);
+    assert_eq!(printed(&["match", "2"], &both), full);
+    // Left-over bytes are told of each file, after everything else.
+    let cut = |bytes: &[u8]| [bytes, &[1, 2, 3][..]].concat();
+    let both = both.with("cores.bin", &cut(&late));
+    let told = format!("{full}cores end inside a word\n");
+    assert_eq!(printed(&["match", "2"], &both), told);
+    let both = both.with("wires.bin", &cut(&wires));
+    let told = format!("{full}wires end inside a word\ncores end inside a word\n");
+    assert_eq!(printed(&["match", "2"], &both), told);
+
+    // An odd count of numbers: 18, and the empty rest.
+    let odd = both.with("wires.bin", &trace_bytes(&[0, word, 4]));
+    assert_eq!(
+        printed(&["match", "2"], &odd),
+        "status which at\n00000012 00000001 00000003\ncycle word\ncores end inside a word\n"
+    );
+}
+
+/// Of the policy and the trace the check asks nothing: they need not be there.
+#[test]
+fn match_reads_a_missing_recording_as_empty() {
+    let event = trace_bytes(&[5, 9]);
+    let line = |which: u32| {
+        format!(
+            "status which at\n00000000 0000000{which} 00000000\ncycle word\n00000005 00000009\n"
+        )
+    };
+    let wires = Folder::new("match-wires").with("wires.bin", &event);
+    assert_eq!(printed(&["match", "3"], &wires), line(1));
+    let cores = Folder::new("match-cores").with("cores.bin", &event);
+    assert_eq!(printed(&["match", "3"], &cores), line(2));
+    let none = Folder::new("match-none");
+    assert_eq!(
+        printed(&["match", "3"], &none),
+        "status which at\n00000000 00000000 00000000\ncycle word\n"
+    );
+    let missing = none.path().join("missing");
+    let output = call(&["match", "3"], Some(&missing));
+    assert_eq!(output.status.code(), Some(2));
+    assert!(text(&output.stderr).contains("there is no folder"));
+    // A recording that is there and cannot be read is no missing one.
+    fs::create_dir(none.path().join("cores.bin")).unwrap();
+    let output = call(&["match", "3"], Some(none.path()));
+    assert_eq!(output.status.code(), Some(1));
+    assert!(text(&output.stderr).contains("cannot read"));
+}
+
 #[test]
 fn generate_writes_the_bytes_of_its_seed() {
     let folder = Folder::new("generate");
@@ -307,6 +419,8 @@ fn help_is_printed_when_asked_for() {
     for command in [
         "run DIR",
         "extract SET DIR",
+        "recordings START DIR",
+        "match DELAY DIR",
         "generate SEED DIR",
         "leaks COUNT",
     ] {
@@ -316,7 +430,7 @@ fn help_is_printed_when_asked_for() {
 
 #[test]
 fn wrong_arguments_are_told_with_the_usage() {
-    let wrong: [&[&str]; 20] = [
+    let wrong: [&[&str]; 27] = [
         &[],
         &["walk"],
         &["run"],
@@ -331,6 +445,13 @@ fn wrong_arguments_are_told_with_the_usage() {
         &["extract", "1, 2", "a"],
         &["extract", "1,none", "a"],
         &["extract", "1", "2", "a"],
+        &["recordings", "0"],
+        &["recordings", "-1", "a"],
+        &["recordings", "4294967296", "a"],
+        &["match", "a"],
+        &["match", "256", "a"],
+        &["match", "two", "a"],
+        &["match", "2", "a", "b"],
         &["generate", "1"],
         &["generate", "one", "a"],
         &["leaks"],

@@ -1,4 +1,4 @@
-"""The designers' tool around the proved model. What decides (reading a policy, running a trace, an extract) is asked of the proved library and the proved program;
+"""The designers' tool around the proved model. What decides (reading a policy, running a trace, an extract, partners) is asked of the proved library and the proved program;
 the modules here turn texts into their files and their numbers into words, tables and pictures.
 
 | Module | What it has |
@@ -17,6 +17,7 @@ the modules here turn texts into their files and their numbers into words, table
 | `clock` | times turned into cycles |
 | `toml_text` | TOML texts: the lines of keys, and mistakes told all at once |
 | `folders` | a folder with policy.bin and trace.bin |
+| `cycle_options` | the options --from and --to |
 | `build` | builds the library and the program where they are missing |
 | `library` | the proved library |
 | `words` | calls, requests, turns and refusals in words |
@@ -40,6 +41,9 @@ the modules here turn texts into their files and their numbers into words, table
 | `recorded` | a recorded log of a hardware block, in its two forms |
 | `streak` | the model's log against a recorded one |
 | `ledger` | the comparisons so far, and the streak |
+| `lab_recordings` | a lab's recordings of activates on the wires and of answers at the cores, in files |
+| `partners` | two such recordings held together |
+| `stretch` | the two recordings of the model's run, or of a stretch of it |
 | `regression` | many folders, each against its expected.txt |
 | `commands/` | a module for each command |
 """

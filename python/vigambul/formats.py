@@ -23,9 +23,12 @@ ELIDED = 256
 WALK_AT = 16
 WALK = 0x1F << WALK_AT
 
-# The numbers of an offer whose class has all its places taken, and of a tick after the last one.
+# The numbers of an offer whose class has all its places taken, of a tick after the last one, and of a recording that is unsound (W-204).
 QUEUE_FULL = 11
 TICKS_OVER = 12
+UNSOUND = 18
+# The most that a cycle of a lab's recording can be, and that of its answer.
+MOST_IN_32_BITS = (1 << 32) - 1
 
 HEADER = "status command answer turn"
 KINDS = ("read", "write")
@@ -185,6 +188,15 @@ REFUSALS = {
     13: Refusal("a policy or state handed in is out of range", "a policy or state that no call gave", "start from a fresh state of a policy that was taken"),
     14: Refusal("the trace number is neither a tick nor an offer", "a stray bit, or a column command's word copied from a log", "0 for a tick; bit 31 and the fields for an offer"),
     15: Refusal("the log is shorter than 4 times the trace", "too small a buffer", "lend 4 numbers for each trace number"),
-    16: Refusal("the extract is longer than the room for it", "too small a buffer", "4 times the trace's length is always enough"),
+    16: Refusal(
+        "the extract, or the recording of a log, is longer than the room for it",
+        "too small a buffer",
+        "4 times the trace's length is always enough for an extract, twice its length for a recording",
+    ),
     17: Refusal("the log is not 4 times as long as the trace", "a log of another trace", "hand in the log of that very trace"),
+    18: Refusal(
+        "a recording has an odd length, a cycle that is not above the one before, or an answer that is due past 32 bits",
+        "a recorder that was stopped inside an event, had two events in one cycle, or whose counter began anew",
+        "cut the recording where its counter begins anew, and leave half an event out",
+    ),
 }

@@ -1,4 +1,5 @@
-"""The proved library, include/vigambul.h: the run, the extracts for a class and for a set of classes, and the bound of a walk."""
+"""The proved library, include/vigambul.h: the run, the extracts for a class and for a set of classes, the bound of a walk, the two recordings of a log, and which events of two
+recordings have partners."""
 
 import ctypes
 from array import array
@@ -18,6 +19,9 @@ def _lent(numbers):
 _SLICE = [ctypes.c_void_p, ctypes.c_size_t]
 _STATUS = [ctypes.POINTER(ctypes.c_uint32)]
 _EXTRACT = _SLICE + [ctypes.c_uint32] + _SLICE * 3 + _STATUS
+_COUNT = [ctypes.POINTER(ctypes.c_size_t)]
+_MATCH = _SLICE * 2 + [ctypes.c_uint8] + _STATUS + _COUNT
+_RECORD = _SLICE * 2 + [ctypes.c_uint32] + _SLICE + _COUNT
 
 
 def _function(shared, name, answer, arguments):
@@ -44,6 +48,16 @@ def _extracted(function, policy, whose, trace, log):
     return status.value, out[:count]
 
 
+def _recorded(function, trace, log, start):
+    """The status of a recording of a log that begins at a cycle, and its numbers: cycle, word, cycle, word."""
+    function = _there(function, "what a lab would record of a run")
+    calls, lines = array(_WORD, trace), array(_WORD, log)
+    out = array(_WORD, bytes(8 * len(calls)))
+    count = ctypes.c_size_t()
+    status = function(*_lent(calls), *_lent(lines), start, *_lent(out), ctypes.byref(count))
+    return status, out[: count.value]
+
+
 class Library:
     """The functions of a shared object that was linked from the proved static library."""
 
@@ -51,9 +65,12 @@ class Library:
         shared = ctypes.CDLL(str(path))
         self._run = _function(shared, "vigambul_run", ctypes.c_uint32, _SLICE * 3)
         self._extract = _function(shared, "vigambul_extract", ctypes.c_size_t, _EXTRACT)
-        # New with W-212 and W-211.
+        # New with W-212, W-211 and W-204.
         self._walk_bound = _function(shared, "vigambul_walk_bound", ctypes.c_uint32, _SLICE + [ctypes.c_uint32] + _STATUS)
         self._extract_set = _function(shared, "vigambul_extract_set", ctypes.c_size_t, _EXTRACT)
+        self._match = _function(shared, "vigambul_match", ctypes.c_uint32, _MATCH)
+        self._wires = _function(shared, "vigambul_wires", ctypes.c_uint32, _RECORD)
+        self._cores = _function(shared, "vigambul_cores", ctypes.c_uint32, _RECORD)
 
     def read(self, policy):
         """The proved reader's answer to a policy file's bytes: 0, or the number that refuses it."""
@@ -82,3 +99,20 @@ class Library:
         status = ctypes.c_uint32()
         bound = function(*_lent(file), first, ctypes.byref(status))
         return status.value, bound
+
+    def wires(self, trace, log, start):
+        """The status of the recording of a log's activates, and its numbers; `start` is the number of ticks that were made before the log."""
+        return _recorded(self._wires, trace, log, start)
+
+    def cores(self, trace, log, start):
+        """The same of a log's answers."""
+        return _recorded(self._cores, trace, log, start)
+
+    def match(self, wires, cores, delay):
+        """Two recordings held together under an answer delay, 0 to 255. The status, 0 or 18; which recording it is about, 1 the wires' and 2 the cores' (the one that is unsound, or
+        holds the first event without a partner), 0 where all have partners; and the place in it at which the rest begins, which is the wires' end where there is none."""
+        function = _there(self._match, "which events of two recordings have partners")
+        activates, answers = array(_WORD, wires), array(_WORD, cores)
+        which, at = ctypes.c_uint32(), ctypes.c_size_t()
+        status = function(*_lent(activates), *_lent(answers), delay, ctypes.byref(which), ctypes.byref(at))
+        return status, which.value, at.value

@@ -1,5 +1,7 @@
-"""Lines of a log as numbers, many at a time: a log may have 17,000,000 of them, so what is as the program prints it is turned over in one piece."""
+"""Lines of a log as numbers, many at a time: a log may have 17,000,000 of them, so what is as the program prints it is turned over in one piece. And what those share who
+read a text line by line."""
 
+import codecs
 import re
 from binascii import Error, unhexlify
 
@@ -13,6 +15,23 @@ LINE = re.compile(rb"([0-9A-Fa-f]{8}) ([0-9A-Fa-f]{8}) ([0-9A-Fa-f]{8}) ([0-9A-F
 CUT_TRACE = b"trace ends inside a word"
 # What stands in place of a log where the policy is refused.
 REFUSED = re.compile(rb"policy refused ([1-9][0-9]?)[ \t\r]*\n?\Z")
+
+
+def numbered(file):
+    """The lines of a file with their numbers, without the mark that some editors put before a text in UTF-8."""
+    for number, line in enumerate(file, 1):
+        yield number, line.removeprefix(codecs.BOM_UTF8) if number == 1 else line
+
+
+def says_nothing(line):
+    """Whether a line is empty or a comment."""
+    return not line.strip() or line.lstrip().startswith(b"#")
+
+
+def shown(line):
+    """A line of a file for a message: its text, cut where it is long."""
+    text = line.strip().decode("ascii", "backslashreplace")
+    return repr(text if len(text) <= 60 else text[:60] + " ..")
 
 
 def refusal_of(line):

@@ -5,34 +5,17 @@
 
 Empty lines and lines that begin with # say nothing. A line of neither kind is an error with its number."""
 
-import codecs
 import re
 from itertools import islice
 from pathlib import Path
 
 from .errors import Wrong
 from .formats import HEADER, LAST_CYCLE, words_of
-from .lines import CUT_TRACE, LINE, MANY, numbers_of, refusal_of
+from .lines import CUT_TRACE, LINE, MANY, numbered, numbers_of, refusal_of, says_nothing, shown
 
 CARRIED = re.compile(rb"(command|answer)[ \t]+([0-9]{1,10})[ \t]+(?:0[xX])?([0-9A-Fa-f]{1,8})\Z")
 CYCLES = re.compile(rb"cycles[ \t]+([0-9]{1,10})\Z")
 FORMS = "a recorded log begins with the header '%s', with 'policy refused N', or with 'command CYCLE WORD', 'answer CYCLE WORD' or 'cycles N'" % HEADER
-
-
-def _lines(file):
-    """The lines of a file with their numbers, without the mark that some editors put before a text in UTF-8."""
-    for number, line in enumerate(file, 1):
-        yield number, line.removeprefix(codecs.BOM_UTF8) if number == 1 else line
-
-
-def _says_nothing(line):
-    return not line.strip() or line.lstrip().startswith(b"#")
-
-
-def _shown(line):
-    """A line of a file for a message: its text, cut where it is long."""
-    text = line.strip().decode("ascii", "backslashreplace")
-    return repr(text if len(text) <= 60 else text[:60] + " ..")
 
 
 class RefusedLog:
@@ -61,21 +44,21 @@ class LineLog:
         """The numbers of lines among which there are others: such as say nothing, the note on a cut trace at the end, or a mistake."""
         kept = []
         for number, line in enumerate(lines, read + 1):
-            if _says_nothing(line):
+            if says_nothing(line):
                 continue
             if line.strip() == CUT_TRACE:
                 self._must_end([*lines[number - read :], *rest], number)
                 break
             if not LINE.match(line):
-                raise Wrong("%s, line %d: %s is not a line of four numbers of 8 hexadecimal digits" % (self.path, number, _shown(line)))
+                raise Wrong("%s, line %d: %s is not a line of four numbers of 8 hexadecimal digits" % (self.path, number, shown(line)))
             kept.append(line)
         return numbers_of(kept)
 
     def _must_end(self, lines, number):
         """After the note on a cut trace nothing may come."""
         for later, line in enumerate(lines, number + 1):
-            if not _says_nothing(line):
-                raise Wrong("%s, line %d: %s stands after '%s', which ends a log" % (self.path, later, _shown(line), CUT_TRACE.decode()))
+            if not says_nothing(line):
+                raise Wrong("%s, line %d: %s stands after '%s', which ends a log" % (self.path, later, shown(line), CUT_TRACE.decode()))
 
 
 class WireLog:
@@ -85,8 +68,8 @@ class WireLog:
         self.path, self.cycles = path, None
         self.command, self.answer = words_of(b"")[0], words_of(b"")[0]
         with open(path, "rb") as file:
-            for number, line in _lines(file):
-                if not _says_nothing(line):
+            for number, line in numbered(file):
+                if not says_nothing(line):
                     self._take(line, number)
         if self.cycles is None:
             raise Wrong("%s: its last line must be 'cycles N', the number of cycles that were recorded: without it a recording that was cut off would look whole" % path)
@@ -95,7 +78,7 @@ class WireLog:
 
     def _take(self, line, number):
         if self.cycles is not None:
-            raise Wrong("%s, line %d: %s stands after the line 'cycles %d', which ends a recording" % (self.path, number, _shown(line), self.cycles))
+            raise Wrong("%s, line %d: %s stands after the line 'cycles %d', which ends a recording" % (self.path, number, shown(line), self.cycles))
         carried = CARRIED.match(line.strip())
         if carried:
             wire, cycle = self.command if carried[1] == b"command" else self.answer, self._cycle(carried[2], number)
@@ -106,7 +89,7 @@ class WireLog:
             return
         cycles = CYCLES.match(line.strip())
         if not cycles:
-            raise Wrong("%s, line %d: %s is none of 'command CYCLE WORD', 'answer CYCLE WORD' (the word in hexadecimal) and 'cycles N'" % (self.path, number, _shown(line)))
+            raise Wrong("%s, line %d: %s is none of 'command CYCLE WORD', 'answer CYCLE WORD' (the word in hexadecimal) and 'cycles N'" % (self.path, number, shown(line)))
         self.cycles = self._cycle(cycles[1], number)
         if self.cycles < max(len(self.command), len(self.answer)):
             raise Wrong("%s, line %d: %d cycles were recorded, but there is a word in cycle %d" % (self.path, number, self.cycles, max(len(self.command), len(self.answer)) - 1))
@@ -130,7 +113,7 @@ def recorded_at(path):
         raise Wrong("%s: a folder, where a recorded log is wanted" % path)
     try:
         with open(path, "rb") as file:
-            said = ((line, number) for number, line in _lines(file) if not _says_nothing(line))
+            said = ((line, number) for number, line in numbered(file) if not says_nothing(line))
             line, number = next(said, (None, 0))
             if line is None:
                 raise Wrong("%s: nothing stands in it; %s" % (path, FORMS))
@@ -149,7 +132,7 @@ def _told_apart(path, line, number, later):
         return WireLog(path)
     refused = refusal_of(text)
     if refused is None:
-        raise Wrong("%s, line %d: %s; %s" % (path, number, _shown(line), FORMS))
+        raise Wrong("%s, line %d: %s; %s" % (path, number, shown(line), FORMS))
     for rest, place in later:
-        raise Wrong("%s, line %d: %s stands after the refusal of the policy, which is a whole log" % (path, place, _shown(rest)))
+        raise Wrong("%s, line %d: %s stands after the refusal of the policy, which is a whole log" % (path, place, shown(rest)))
     return RefusedLog(refused)

@@ -11,6 +11,11 @@ def counted(number, thing, things=None, form="d"):
     return "%s %s" % (format(number, form), thing if number == 1 else things or thing + "s")
 
 
+def cycles_words(first, last):
+    """The cycles from one to another, both counted."""
+    return "cycle %d" % first if first == last else "cycles %d to %d" % (first, last)
+
+
 def request_words(word, names):
     """A request: its class, kind, rank, bank and tag. The rank is said where the policy has four, and where it is not 0. Numbers that no request may have are shown as they are."""
     request = request_of(word)

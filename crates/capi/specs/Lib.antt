@@ -6,5 +6,7 @@ pub mod Runs
 pub mod Extracts
 -- W-212: how many classes a walk tries at most, by a policy file
 pub mod Bounds
+-- W-204: two recordings held together
+pub mod Matches
 -- which numbers a run and such a bound answer
 pub mod Laws

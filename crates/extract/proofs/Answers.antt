@@ -3,18 +3,18 @@
 -- Assumes nothing.
 use mathlib.Core.Path.{_≡_, refl, sym, ap, _∙_, fun-ext}
 use mathlib.Core.Logic.{⊎-elim}
-use mathlib.Core.Bool.{Bool, true, false, cond, not, _&&_, _||_}
+use mathlib.Core.Bool.{Bool, true, false, cond, _&&_}
 use mathlib.Core.List.{List, _++_}
-use Prim.Native.Nat.{ℕ, _*_, _/_, _%_, _≤_, _<_}
+use Prim.Native.Nat.{ℕ, _*_, _≤_, _<_}
 use native.Mathlib.Omega.{arith}
-use borrow.Author.Tests.{eq-eqb, ne-eqb, eqb-true, eqb-false, le-leb, lt-leb}
+use borrow.Author.Tests.{eq-eqb, eqb-true, le-leb, lt-leb}
 use lib.Dec.{eqb, leb}
 use lib.ListN.{length, drop}
 use Rattle.basics.specs.Below.{setOf}
 use Rattle.masks.specs.Mask.{member, classMask}
 use Rattle.policy.specs.Policy.{flows, inRange, isClass}
 use Rattle.policy.specs.declared.Policy.{Policy}
-use Rattle.basics.proofs.Truth.{either, false-unless, same-truth, and-left, and-right, and-both, or-left, or-right}
+use Rattle.basics.proofs.Truth.{either, false-unless, same-truth, and-left, and-right, and-both}
 use Rattle.basics.proofs.Below.{lt-or-ge, some-at, some-found}
 use Rattle.masks.proofs.Masks.{member-over, member-classMask, setOf-below, member-setOf}
 use Rattle.policy.proofs.Laws.{policy-laws}
@@ -68,24 +68,6 @@ module _ (p : Policy) where
   pub seen-masked : inRange p ≡ true → (l : ℕ) → isClass p l ≡ true → member (setOf 16 (seenByAny p (classMask l))) ≡ seenBy p l
   seen-masked given l class =
       seen-is given (classMask l) ∙ seen-alone l (classMask l) (policy-laws p given .order .class-small l class) (λ j small. member-classMask l j small)
-
--- ---- the lengths
-
--- the code's test for 17, which no product can make wrap
-pub four-times : (a b : ℕ) → (not (eqb (a % 4) 0) || not (eqb (a / 4) b)) ≡ not (eqb a (4 * b))
-four-times a b =
-    ⊎-elim
-    (λ e.
-    let same : a ≡ 4 * b = eqb-true a (4 * b) e in
-    rw (eq-eqb (a % 4) 0 (omega arith), eq-eqb (a / 4) b (omega arith)) (sym (ap not e)))
-    (λ e.
-    ⊎-elim
-    (λ r.
-    let rest : a % 4 ≡ 0 = eqb-true (a % 4) 0 r in
-    or-right (not (eqb (a % 4) 0)) (not (eqb (a / 4) b)) (ap not (ne-eqb (a / 4) b (λ q. eqb-false a (4 * b) e (omega (arith, q))))) ∙ sym (ap not e))
-    (λ r. or-left (not (eqb (a % 4) 0)) (not (eqb (a / 4) b)) (ap not r) ∙ sym (ap not e))
-    (either (eqb (a % 4) 0)))
-    (either (eqb a (4 * b)))
 
 -- ---- the answers
 

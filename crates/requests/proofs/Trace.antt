@@ -1,11 +1,13 @@
--- A trace word told apart: the three sides of its definition, by the tests that pick them, and that an offer's word is the one that it came as.
+-- A trace word told apart: the three sides of its definition, by the tests that pick them, and that an offer's word is the one that it came as. And the test for 17.
 -- Assumes nothing.
 use mathlib.Core.Path.{_≡_, sym, ap, _∙_}
 use mathlib.Core.Logic.{⊎-elim}
-use mathlib.Core.Bool.{true, false}
-use Prim.Native.Nat.{ℕ}
+use mathlib.Core.Bool.{true, false, not, _||_}
+use Prim.Native.Nat.{ℕ, _*_, _/_, _%_}
+use native.Mathlib.Omega.{arith}
+use borrow.Author.Tests.{eq-eqb, ne-eqb, eqb-true, eqb-false}
 use lib.Dec.{eqb}
-use Rattle.basics.proofs.Truth.{either, on-true, on-false}
+use Rattle.basics.proofs.Truth.{either, or-left, or-right, on-true, on-false}
 use Rattle.requests.specs.Word.{isOffer, requestOf, wordOf}
 use Rattle.requests.specs.Trace.{callOf}
 use Rattle.requests.specs.declared.Request.{Request}
@@ -45,3 +47,21 @@ word-kept w =
 pub offer-word : (w : ℕ) (r : Request) → callOf w ≡ Offer r → w ≡ wordOf r
 unfolding word-in
 offer-word w r e = sym (word-kept w) ∙ ap (λ (c : Call). word-in c w) e
+
+-- ---- four log numbers for each trace number
+
+-- the code's test for 17, which no product can make wrap
+pub four-times : (a b : ℕ) → (not (eqb (a % 4) 0) || not (eqb (a / 4) b)) ≡ not (eqb a (4 * b))
+four-times a b =
+    ⊎-elim
+    (λ e.
+    let same : a ≡ 4 * b = eqb-true a (4 * b) e in
+    rw (eq-eqb (a % 4) 0 (omega arith), eq-eqb (a / 4) b (omega arith)) (sym (ap not e)))
+    (λ e.
+    ⊎-elim
+    (λ r.
+    let rest : a % 4 ≡ 0 = eqb-true (a % 4) 0 r in
+    or-right (not (eqb (a % 4) 0)) (not (eqb (a / 4) b)) (ap not (ne-eqb (a / 4) b (λ q. eqb-false a (4 * b) e (omega (arith, q))))) ∙ sym (ap not e))
+    (λ r. or-left (not (eqb (a % 4) 0)) (not (eqb (a / 4) b)) (ap not r) ∙ sym (ap not e))
+    (either (eqb (a % 4) 0)))
+    (either (eqb a (4 * b)))

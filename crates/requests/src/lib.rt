@@ -10,6 +10,9 @@ pub const BANK_COUNT: usize = 8;
 
 pub const BANK_PLACES: usize = 32;
 
+// The last cycle: a tick there is refused with 12.
+pub const LAST_CYCLE: u32 = 16777215;
+
 // A request, as an offer makes it.
 pub struct Request {
     pub class: u32,

@@ -16,7 +16,7 @@ use flight::Pending;
 use policy::Policy;
 use queues::Slots;
 use requests::Call;
-use state::LAST_CYCLE;
+use requests::LAST_CYCLE;
 use state::Ran;
 use state::State;
 use ticking::Called;

@@ -11,10 +11,8 @@ ghost use Rattle.state.specs.Range.{countsInRange, stateInRange, inRange
 use flight::Flight;
 use policy::Policy;
 use queues::Queues;
+use requests::LAST_CYCLE;
 use requests::Record;
-
-// The last cycle: a tick there is refused with 12.
-pub const LAST_CYCLE: u32 = 16777215;
 
 // Who has the turn, and what each class has left.
 pub struct Turns {

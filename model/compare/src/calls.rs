@@ -6,6 +6,7 @@ use std::fmt::{self, Display, Formatter};
 use vigambul_model::class_set::ClassSet;
 use vigambul_model::extract::extract_set_planted;
 use vigambul_model::planted::Planted;
+use vigambul_model::recordings::{match_planted, recording_planted, Recording};
 use vigambul_model::trace::run_planted;
 use vigambul_model::{policy, refusal, state};
 
@@ -105,6 +106,62 @@ impl Calls for Model {
         }
         let classes = viewer.classes();
         let outcome = extract_set_planted(&policy, classes, trace, log, out, self.0);
+        (outcome.unwrap_or(0), refusal::status(&outcome))
+    }
+}
+
+/// What the library for C does with W-204's recordings.
+pub trait RecordingCalls {
+    /// The check of two recordings: the status, which recording, and where its rest begins.
+    fn match_recordings(&self, wires: &[u32], cores: &[u32], delay: u8) -> (u32, u32, usize);
+
+    /// One of the two recordings of a trace's log that begins at a cycle: the count and the status.
+    fn recording(
+        &self,
+        of: Recording,
+        trace: &[u32],
+        log: &[u32],
+        start: u32,
+        out: &mut [u32],
+    ) -> (usize, u32);
+}
+
+impl RecordingCalls for Library {
+    fn match_recordings(&self, wires: &[u32], cores: &[u32], delay: u8) -> (u32, u32, usize) {
+        library::match_recordings(wires, cores, delay)
+    }
+
+    fn recording(
+        &self,
+        of: Recording,
+        trace: &[u32],
+        log: &[u32],
+        start: u32,
+        out: &mut [u32],
+    ) -> (usize, u32) {
+        match of {
+            Recording::Wires => library::wires(trace, log, start, out),
+            Recording::Cores => library::cores(trace, log, start, out),
+        }
+    }
+}
+
+impl RecordingCalls for Model {
+    fn match_recordings(&self, wires: &[u32], cores: &[u32], delay: u8) -> (u32, u32, usize) {
+        let matched = match_planted(wires, cores, delay, self.0);
+        let which = matched.which.map_or(0, Recording::number);
+        (matched.status, which, matched.at)
+    }
+
+    fn recording(
+        &self,
+        of: Recording,
+        trace: &[u32],
+        log: &[u32],
+        start: u32,
+        out: &mut [u32],
+    ) -> (usize, u32) {
+        let outcome = recording_planted(of, trace, log, start, out, self.0);
         (outcome.unwrap_or(0), refusal::status(&outcome))
     }
 }

@@ -46,10 +46,45 @@ extern "C" {
         class: u32,
         status: *mut u32,
     ) -> u32;
+
+    fn vigambul_match(
+        wires: *const u32,
+        wires_len: usize,
+        cores: *const u32,
+        cores_len: usize,
+        delay: u8,
+        which: *mut u32,
+        at: *mut usize,
+    ) -> u32;
+
+    fn vigambul_wires(
+        trace: *const u32,
+        trace_len: usize,
+        log: *const u32,
+        log_len: usize,
+        start: u32,
+        wires: *mut u32,
+        wires_len: usize,
+        count: *mut usize,
+    ) -> u32;
+
+    fn vigambul_cores(
+        trace: *const u32,
+        trace_len: usize,
+        log: *const u32,
+        log_len: usize,
+        start: u32,
+        cores: *mut u32,
+        cores_len: usize,
+        count: *mut usize,
+    ) -> u32;
 }
 
-/// What a status holds before the call: no call leaves it.
+/// What a status, or which recording it is, holds before the call: no call leaves it.
 const NO_STATUS: u32 = 0x5AA5_5AA5;
+
+/// What a place or a count holds before the call. No slice is so long, so that none is left.
+const NO_COUNT: usize = usize::MAX - 0x5AA5;
 
 /// Reads a policy file's bytes, makes its fresh state and runs the trace into
 /// the log. Answers 0, 1 to 8 where the file is refused, or 15 where the log is
@@ -146,4 +181,73 @@ pub fn walk_bound(policy: &[u8], class: u32) -> (u32, u32) {
     // as does the status, and only the status is written.
     let number = unsafe { vigambul_walk_bound(policy.as_ptr(), policy.len(), class, &mut status) };
     (number, status)
+}
+
+/// Holds two recordings together. Answers the status, 0 or 18, which recording is unsound or holds
+/// the first event without a partner, and where in it the rest begins.
+pub fn match_recordings(wires: &[u32], cores: &[u32], delay: u8) -> (u32, u32, usize) {
+    let (mut which, mut at) = (NO_STATUS, NO_COUNT);
+    // SAFETY: each pointer and length is that of a slice which lives for the whole call, as do the
+    // two numbers, and only these are written.
+    let status = unsafe {
+        vigambul_match(
+            wires.as_ptr(),
+            wires.len(),
+            cores.as_ptr(),
+            cores.len(),
+            delay,
+            &mut which,
+            &mut at,
+        )
+    };
+    (status, which, at)
+}
+
+/// Writes the wires' recording of a trace's log that begins at a cycle to the start of `out`.
+/// Answers how many numbers it wrote, and the status: 0, 17, 12 or 16; refused, the count is 0 and
+/// nothing is written.
+pub fn wires(trace: &[u32], log: &[u32], start: u32, out: &mut [u32]) -> (usize, u32) {
+    record_by(vigambul_wires, trace, log, start, out)
+}
+
+/// The same of the cores' recording.
+pub fn cores(trace: &[u32], log: &[u32], start: u32, out: &mut [u32]) -> (usize, u32) {
+    record_by(vigambul_cores, trace, log, start, out)
+}
+
+/// A call that makes one of the two recordings.
+type Record = unsafe extern "C" fn(
+    *const u32,
+    usize,
+    *const u32,
+    usize,
+    u32,
+    *mut u32,
+    usize,
+    *mut usize,
+) -> u32;
+
+fn record_by(
+    call: Record,
+    trace: &[u32],
+    log: &[u32],
+    start: u32,
+    out: &mut [u32],
+) -> (usize, u32) {
+    let mut count = NO_COUNT;
+    // SAFETY: each pointer and length is that of a slice which lives for the whole call, as does the
+    // count; only the count and `out`, which is lent for writing, are written.
+    let status = unsafe {
+        call(
+            trace.as_ptr(),
+            trace.len(),
+            log.as_ptr(),
+            log.len(),
+            start,
+            out.as_mut_ptr(),
+            out.len(),
+            &mut count,
+        )
+    };
+    (count, status)
 }

@@ -145,7 +145,73 @@ static void bounds(void)
     expect(VIGAMBUL_TURN_TRIED(VIGAMBUL_TURN_HIDDEN) == 0, "tried classes of a hidden turn");
 }
 
-/* The numbers of the refusals, each of a call that gets it; 12 is a tick too far to run here, and 13 is of states that no caller hands in. */
+/* Activates against answers: the recordings of the printed log, a dropped answer and a dropped activate, a shared due cycle, and recordings that are unsound. */
+static void recordings(void)
+{
+    enum { WORD = 7, LAST_START = 16777215 - 3 };
+    static const uint32_t of_wires[] = {0, 0x80010007};
+    static const uint32_t of_cores[] = {2, 0x80010007};
+    static const uint32_t wires[] = {0, WORD, 4, WORD, 9, WORD};
+    static const uint32_t cores[] = {2, WORD, 6, WORD, 11, WORD};
+    static const uint32_t one_dropped[] = {2, WORD, 11, WORD};
+    static const uint32_t others[] = {2, WORD, 6, WORD + 1, 11, WORD};
+    static const uint32_t repeated[] = {2, WORD, 2, WORD};
+    static const uint32_t fallen[] = {2, WORD, 1, WORD};
+    static const uint32_t last[] = {UINT32_MAX - 255, WORD};
+    static const uint32_t past[] = {UINT32_MAX - 254, WORD};
+    uint32_t out[2 * COUNT(TRACE) + 1];
+    uint32_t which = UNWRITTEN;
+    size_t at = UNWRITTEN, count = UNWRITTEN;
+
+    expect(vigambul_match(wires, COUNT(wires), cores, COUNT(cores), 2, &which, &at) == VIGAMBUL_TAKEN, "recordings that match");
+    expect(which == 0 && at == COUNT(wires), "their empty rest");
+    expect(vigambul_match(wires, COUNT(wires), one_dropped, COUNT(one_dropped), 2, &which, &at) == VIGAMBUL_TAKEN && which == 1 && at == 2, "a dropped answer");
+    expect(vigambul_match(one_dropped, COUNT(one_dropped), cores, COUNT(cores), 0, &which, &at) == VIGAMBUL_TAKEN && which == 2 && at == 2, "a dropped activate");
+    expect(vigambul_match(wires, COUNT(wires), others, COUNT(others), 2, &which, &at) == VIGAMBUL_TAKEN && which == 1 && at == 2, "a shared due cycle with other words");
+    which = UNWRITTEN;
+    at = UNWRITTEN;
+    expect(vigambul_match(NULL, 0, NULL, 0, 255, &which, &at) == VIGAMBUL_TAKEN && which == 0 && at == 0, "no recordings");
+    expect(vigambul_match(wires, COUNT(wires), NULL, 0, 0, &which, &at) == VIGAMBUL_TAKEN && which == 1 && at == 0, "no answers");
+    expect(vigambul_match(NULL, 0, cores, COUNT(cores), 0, &which, &at) == VIGAMBUL_TAKEN && which == 2 && at == 0, "no activates");
+
+    expect(vigambul_match(wires, COUNT(wires) - 1, cores, COUNT(cores), 2, &which, &at) == VIGAMBUL_REFUSED_RECORDING && which == 1 && at == COUNT(wires) - 1, "wires of odd length");
+    expect(vigambul_match(wires, COUNT(wires), cores, COUNT(cores) - 1, 2, &which, &at) == VIGAMBUL_REFUSED_RECORDING && which == 2 && at == COUNT(wires), "cores of odd length");
+    expect(vigambul_match(repeated, COUNT(repeated), fallen, COUNT(fallen), 2, &which, &at) == VIGAMBUL_REFUSED_RECORDING && which == 1 && at == COUNT(repeated), "both unsound");
+    expect(vigambul_match(NULL, 0, fallen, COUNT(fallen), 2, &which, &at) == VIGAMBUL_REFUSED_RECORDING && which == 2 && at == 0, "a cycle that falls");
+    expect(vigambul_match(past, COUNT(past), NULL, 0, 255, &which, &at) == VIGAMBUL_REFUSED_RECORDING && which == 1 && at == COUNT(past), "a due cycle past 32 bits");
+    expect(vigambul_match(last, COUNT(last), NULL, 0, 255, &which, &at) == VIGAMBUL_TAKEN && which == 1 && at == 0, "the last due cycle of 32 bits");
+    expect(vigambul_match(NULL, 0, past, COUNT(past), 255, &which, &at) == VIGAMBUL_TAKEN && which == 2 && at == 0, "an answer is due at its own cycle");
+
+    memset(out, 0x55, sizeof out);
+    expect(vigambul_wires(TRACE, COUNT(TRACE), LOG, COUNT(LOG), 0, out, COUNT(out), &count) == VIGAMBUL_TAKEN && count == COUNT(of_wires), "the wires' recording");
+    expect(memcmp(out, of_wires, sizeof of_wires) == 0 && out[COUNT(of_wires)] == 0x55555555, "its numbers, and one past them");
+    memset(out, 0x55, sizeof out);
+    expect(vigambul_cores(TRACE, COUNT(TRACE), LOG, COUNT(LOG), 0, out, COUNT(of_cores), &count) == VIGAMBUL_TAKEN && count == COUNT(of_cores), "the cores' recording");
+    expect(memcmp(out, of_cores, sizeof of_cores) == 0 && out[COUNT(of_cores)] == 0x55555555, "its numbers, and one past them");
+    expect(vigambul_match(of_wires, COUNT(of_wires), of_cores, COUNT(of_cores), 2, &which, &at) == VIGAMBUL_TAKEN && which == 0, "the printed log matches");
+    expect(vigambul_wires(TRACE, COUNT(TRACE), LOG, COUNT(LOG), LAST_START, out, COUNT(out), &count) == VIGAMBUL_TAKEN && out[0] == LAST_START, "the last start of three ticks");
+
+    memset(out, 0x55, sizeof out);
+    count = UNWRITTEN;
+    expect(vigambul_wires(TRACE, COUNT(TRACE), LOG, COUNT(LOG), LAST_START + 1, out, COUNT(out), &count) == VIGAMBUL_REFUSED_LAST_TICK && count == 0, "a tick too many on the wires");
+    count = UNWRITTEN;
+    expect(vigambul_cores(TRACE, COUNT(TRACE), LOG, COUNT(LOG), UINT32_MAX, NULL, 0, &count) == VIGAMBUL_REFUSED_LAST_TICK && count == 0, "a tick too many at the cores");
+    count = UNWRITTEN;
+    expect(vigambul_wires(TRACE, COUNT(TRACE), LOG, COUNT(LOG) - 1, UINT32_MAX, NULL, 0, &count) == VIGAMBUL_REFUSED_LOG_LENGTH && count == 0, "a log to record one number short");
+    count = UNWRITTEN;
+    expect(vigambul_cores(TRACE, COUNT(TRACE), NULL, 0, 0, out, COUNT(out), &count) == VIGAMBUL_REFUSED_LOG_LENGTH && count == 0, "no log to record");
+    count = UNWRITTEN;
+    expect(vigambul_wires(TRACE, COUNT(TRACE), LOG, COUNT(LOG), 0, out, 1, &count) == VIGAMBUL_REFUSED_ROOM && count == 0, "room for the wires one number short");
+    count = UNWRITTEN;
+    expect(vigambul_cores(TRACE, COUNT(TRACE), LOG, COUNT(LOG), 0, NULL, 0, &count) == VIGAMBUL_REFUSED_ROOM && count == 0, "no room for the cores");
+    expect(out[0] == 0x55555555, "a refused recording that writes");
+    count = UNWRITTEN;
+    expect(vigambul_wires(NULL, 0, NULL, 0, 16777215, NULL, 0, &count) == VIGAMBUL_TAKEN && count == 0, "a recording of nothing");
+    count = UNWRITTEN;
+    expect(vigambul_cores(NULL, 0, NULL, 0, 16777216, NULL, 0, &count) == VIGAMBUL_REFUSED_LAST_TICK && count == 0, "a start past the last tick");
+}
+
+/* The numbers of the refusals, each of a call that gets it; 12 in a run is a tick too far to run here, and 13 is of states that no caller hands in. */
 static void refusals(void)
 {
     /* A byte of the policy, what it becomes, and the number. */
@@ -182,7 +248,8 @@ static void refusals(void)
 
     expect(vigambul_extract(POLICY, COUNT(POLICY), 0, TRACE, COUNT(TRACE), LOG, COUNT(LOG), log, COUNT(LOG) - 1, &status) == 0 && status == VIGAMBUL_REFUSED_ROOM, "the number of too little room");
     expect(vigambul_extract(POLICY, COUNT(POLICY), 0, TRACE, COUNT(TRACE), LOG, COUNT(LOG) - 1, log, COUNT(log), &status) == 0 && status == VIGAMBUL_REFUSED_LOG_LENGTH, "the number of a log to extract");
-    expect(VIGAMBUL_REFUSED_LAST_TICK == 12 && VIGAMBUL_REFUSED_RANGE == 13, "the numbers that no call here gets");
+    expect(VIGAMBUL_REFUSED_RANGE == 13, "the number that no call here gets");
+    expect(VIGAMBUL_REFUSED_LAST_TICK == 12 && VIGAMBUL_REFUSED_RECORDING == 18, "the numbers of recordings");
 }
 
 /* The words and turn numbers of a run: eight requests of class 0 wait, so its owners are 0, 1 and 1, with the dead time dropped, dropped and kept (document 01's worked turn b). */
@@ -300,6 +367,7 @@ int main(void)
     extracts();
     sets();
     bounds();
+    recordings();
     refusals();
     words();
     ranks();

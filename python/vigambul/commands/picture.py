@@ -1,9 +1,9 @@
 """`vig picture`: a run as a picture."""
 
-import argparse
 import sys
 
 from .. import build
+from ..cycle_options import add_options
 from ..folders import folder_at, run_folder, write_file
 from ..history import ticks_of
 from ..picture import TURNS_SHOWN, Drawing, events_of, shown_range
@@ -22,12 +22,6 @@ def run(arguments):
     write_file(arguments.output, drawing.svg())
 
 
-def _cycle(text):
-    if not text.isdecimal():
-        raise argparse.ArgumentTypeError("%r is not a cycle, a number from 0 on" % text)
-    return int(text)
-
-
 def add(commands):
     command = commands.add_parser(
         "picture",
@@ -38,7 +32,6 @@ def add(commands):
         epilog="examples:\n  vig picture examples/two-tenants-busy -o busy.svg\n  vig picture examples/diamond --from 15 --to 34 -o top.svg",
     )
     command.add_argument("folder", metavar="FOLDER", help="a folder with policy.bin and trace.bin")
-    command.add_argument("--from", dest="first", metavar="C", type=_cycle, help="the first cycle to draw (0)")
-    command.add_argument("--to", dest="last", metavar="C", type=_cycle, help="the last cycle to draw")
+    add_options(command, "the first cycle to draw (0)", "the last cycle to draw")
     command.add_argument("-o", dest="output", metavar="F.svg", required=True, help="the file to write")
     command.set_defaults(run=run)

@@ -10,9 +10,10 @@ use lib.ListN.{length}
 use Rattle.masks.specs.Mask.{member}
 use Rattle.policy.specs.Policy.{inRange}
 use Rattle.basics.proofs.Truth.{not-true, not-not}
+use Rattle.requests.proofs.Trace.{four-times}
 use Rattle.extract.specs.Extract.{seenStatus}
 use Rattle.extract.proofs.Grown.{kept-le}
-use Rattle.extract.proofs.Answers.{four-times, refused-13, refused-9, refused-17, refused-16, not-refused, refused, taken, written, count-is}
+use Rattle.extract.proofs.Answers.{refused-13, refused-9, refused-17, refused-16, not-refused, refused, taken, written, count-is}
 use Rattle.extract.proofs.extract_seen.Statement.{statement}
 use Rattle.extract.proofs.extract_seen.Tie as tie
 

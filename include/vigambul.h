@@ -52,7 +52,7 @@ enum vigambul_refusal {
     VIGAMBUL_REFUSED_CLASS = 9,       /* class not below n, or a set of classes with such a class */
     VIGAMBUL_REFUSED_BANK_KIND = 10,  /* bank above 7, kind above 1, or a rank other than 0 with ten timing bytes */
     VIGAMBUL_REFUSED_QUEUE = 11,      /* 8 requests of that class wait */
-    VIGAMBUL_REFUSED_LAST_TICK = 12,  /* a tick after 16,777,215 ticks; of a log to record, if by its start it has such a tick */
+    VIGAMBUL_REFUSED_LAST_TICK = 12,  /* a tick after 16,777,215 ticks; of a log to record, if its start and its ticks together are above that */
     VIGAMBUL_REFUSED_RANGE = 13,      /* a state or policy handed in has numbers out of range (none of these functions is handed one) */
     VIGAMBUL_REFUSED_MALFORMED = 14,  /* a trace number of neither form */
     VIGAMBUL_REFUSED_LOG = 15,        /* log shorter than 4 times the trace */

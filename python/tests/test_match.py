@@ -210,7 +210,7 @@ class MatchCase(Case):
         return text.replace("%s/" % self.room, "").replace(str(EXAMPLES), "examples")
 
     def put(self, wires, cores, names=True):
-        """A folder with two recordings, and the example's names but no policy."""
+        """A folder with two recordings, and the example's policy and names beside them if they are wanted."""
         for side, row in (("wires", wires), ("cores", cores)):
             (self.room / (side + ".bin")).write_bytes(bytes_of(row))
         if names:
@@ -359,7 +359,6 @@ class Match(MatchCase):
                 left = len(row) // 2 - at // 2
                 self.assertTrue(lines[2].endswith(" has %d event%s" % (left, "" if left == 1 else "s")), lines[2])
 
-
     def test_the_tool_decides_nothing(self):
         """Whatever the library says is told, though the recordings look otherwise."""
         library = build.library()
@@ -486,6 +485,7 @@ class Usage(MatchCase):
         self.assertIn("vig: --wires F is wanted, or a folder with the recording", self.fails(2, "match"))
         self.assertIn("vig: --cores F is wanted", self.fails(2, "match", "--wires", LAB / "wires.bin"))
         self.assertIn("no recording of the wires in it", self.fails(2, "match", EXAMPLES / "cloud"))
+        self.assertIn("no recording of the wires in it", self.fails(2, "match", ""))
         self.assertIn("no such folder", self.fails(2, "match", self.room / "no"))
         self.assertIn("not a folder", self.fails(2, "match", LAB / "wires.bin"))
         self.assertIn("no such file", self.fails(2, "match", LAB, "--cores", self.room / "no.bin"))

@@ -187,6 +187,12 @@ class Record(Case):
         shutil.copy(RANKS / "policy.bin", other)
         self.assertIn("policy.bin: is there already", self.fails(2, "record", LAB, "-o", other))
         self.assertEqual([path.name for path in other.iterdir()], ["policy.bin"])
+        nameless, named = self.room / "nameless", self.room / "named"
+        shutil.copytree(LAB, nameless)
+        (nameless / "policy.names").unlink()
+        named.mkdir()
+        shutil.copy(LAB / "policy.names", named)
+        self.assertIn("policy.names: is there already", self.fails(2, "record", nameless, "-o", named))
 
     def test_where_it_cannot_be_written(self):
         (self.room / "file").write_text("")

@@ -17,11 +17,11 @@ def _lent(numbers):
 
 
 _SLICE = [ctypes.c_void_p, ctypes.c_size_t]
-_STATUS = [ctypes.POINTER(ctypes.c_uint32)]
-_EXTRACT = _SLICE + [ctypes.c_uint32] + _SLICE * 3 + _STATUS
-_COUNT = [ctypes.POINTER(ctypes.c_size_t)]
-_MATCH = _SLICE * 2 + [ctypes.c_uint8] + _STATUS + _COUNT
-_RECORD = _SLICE * 2 + [ctypes.c_uint32] + _SLICE + _COUNT
+_NUMBER = [ctypes.POINTER(ctypes.c_uint32)]
+_EXTRACT = _SLICE + [ctypes.c_uint32] + _SLICE * 3 + _NUMBER
+_SIZE = [ctypes.POINTER(ctypes.c_size_t)]
+_MATCH = _SLICE * 2 + [ctypes.c_uint8] + _NUMBER + _SIZE
+_RECORD = _SLICE * 2 + [ctypes.c_uint32] + _SLICE + _SIZE
 
 
 def _function(shared, name, answer, arguments):
@@ -66,7 +66,7 @@ class Library:
         self._run = _function(shared, "vigambul_run", ctypes.c_uint32, _SLICE * 3)
         self._extract = _function(shared, "vigambul_extract", ctypes.c_size_t, _EXTRACT)
         # New with W-212, W-211 and W-204.
-        self._walk_bound = _function(shared, "vigambul_walk_bound", ctypes.c_uint32, _SLICE + [ctypes.c_uint32] + _STATUS)
+        self._walk_bound = _function(shared, "vigambul_walk_bound", ctypes.c_uint32, _SLICE + [ctypes.c_uint32] + _NUMBER)
         self._extract_set = _function(shared, "vigambul_extract_set", ctypes.c_size_t, _EXTRACT)
         self._match = _function(shared, "vigambul_match", ctypes.c_uint32, _MATCH)
         self._wires = _function(shared, "vigambul_wires", ctypes.c_uint32, _RECORD)

@@ -5,7 +5,7 @@ from dataclasses import dataclass
 from functools import cached_property
 
 from .errors import Wrong
-from .formats import COLUMN, MOST_IN_32_BITS, is_column, is_offer
+from .formats import COLUMN, MOST_IN_32_BITS, UNSOUND, is_column, is_offer
 from .lab_recordings import CORES, WIRES, Recording
 from .tables import aligned
 from .trace_words import malformed_words
@@ -138,6 +138,6 @@ def held(library, wires, cores, delay):
     """Holds two recordings together by the proved library. One that is unsound ends the command: nothing is said of partners then."""
     status, which, at = library.match(wires.numbers, cores.numbers, delay)
     alone = {1: wires, 2: cores}.get(which)
-    if status != 0:
+    if status == UNSOUND:
         raise Wrong("the recording of the %s is unsound (%d), so nothing is said of partners; %s, %s" % (alone.side.name, status, alone.path, fault_words(alone, delay)))
     return Held(wires, cores, delay, alone, at // 2)

@@ -164,7 +164,7 @@ pub extern "C" fn vigambul_match(
 }
 
 // W-204: writes the recording of the activates on the wires that the log of a trace shows, which begins at cycle `start`, to the start of `wires`. Answers 0, or 17 for the log's length,
-// 12 for a tick after the last, 16 for too little room; then the count is 0 and nothing is written.
+// 12 where the start and its ticks are past the last cycle, 16 for too little room; then the count is 0 and nothing is written.
 #[no_mangle]
 pub extern "C" fn vigambul_wires(
     trace: &[u32],
@@ -177,9 +177,9 @@ pub extern "C" fn vigambul_wires(
     ensures { λ r. ⌜ now (count .exit) ≡ recorded true (now (trace .entry)) (now (log .entry)) start (now (wires .entry)) .count ⌝ }
     ensures { λ r. ⌜ now (wires .exit) ≡ outAfter true (now (trace .entry)) (now (log .entry)) start (now (wires .entry)) ⌝ }
 {
-    let activates = recordings::wires_of(trace, log, start, wires);
-    *count = activates.count;
-    activates.status
+    let at_wires = recordings::wires_of(trace, log, start, wires);
+    *count = at_wires.count;
+    at_wires.status
 }
 
 // W-204: the same for the responses at the cores.
@@ -195,7 +195,7 @@ pub extern "C" fn vigambul_cores(
     ensures { λ r. ⌜ now (count .exit) ≡ recorded false (now (trace .entry)) (now (log .entry)) start (now (cores .entry)) .count ⌝ }
     ensures { λ r. ⌜ now (cores .exit) ≡ outAfter false (now (trace .entry)) (now (log .entry)) start (now (cores .entry)) ⌝ }
 {
-    let responses = recordings::cores_of(trace, log, start, cores);
-    *count = responses.count;
-    responses.status
+    let at_cores = recordings::cores_of(trace, log, start, cores);
+    *count = at_cores.count;
+    at_cores.status
 }

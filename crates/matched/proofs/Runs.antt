@@ -36,7 +36,7 @@ use Rattle.recordings.proofs.Recordings.{wires-three, cores-two, sound-both}
 use Rattle.recordings.proofs.Matching.{are-partners, finds-none, alone-sound}
 use Rattle.recordings.proofs.Logged.{not-refused}
 use Rattle.matched.proofs.Made.{one-more, later-cycle, later-word, first-cycle, first-word, recordings-sound}
-use Rattle.matched.specs.Runs.{nothingPending, quietAfter, cutLog, startOf, stretch, RunMatches}
+use Rattle.matched.specs.Runs.{nothingPending, quietAfter, cutLog, startOf, stretch, RunMatches, RunsMatch}
 use Rattle.matched.proofs.Pending.{shifted, due-none, none-due, none-late, pendingOf, in-order, cycle-after}
 
 -- fewer than two numbers are no event
@@ -73,9 +73,9 @@ module _ (d : ℕ) where
   shift-word (c ∷ w ∷ r) (suc i) h = later-word (c + d) w (shifted d r) i ∙ shift-word r i (omega (arith, h, one-more c w r)) ∙ sym (later-word c w r i)
 
   -- so all have partners
-  all-partners : (wires cores : List ℕ) → soundness d wires cores ≡ Sound → shifted d wires ≡ cores → unmatched d wires cores ≡ []
-  unfolding unmatched restOf statusOf
-  all-partners wires cores sound same =
+  no-event-alone : (wires cores : List ℕ) → soundness d wires cores ≡ Sound → shifted d wires ≡ cores → alone d wires cores ≡ NoEvent
+  unfolding statusOf
+  no-event-alone wires cores sound same =
       let zero-status : statusOf (soundness d wires cores) ≡ 0 = ap statusOf sound in
       let both = sound-both d wires cores zero-status in
       let count : eventsIn cores ≡ eventsIn wires = same-count cores wires (ap length (sym same) ∙ shift-long wires) in
@@ -85,11 +85,12 @@ module _ (d : ℕ) where
       (sym (ap (λ (l : List ℕ). wordAt l i) (sym same) ∙ shift-word wires i h))
       (sym (ap (λ (l : List ℕ). cycleAt l i) (sym same) ∙ shift-cycle wires i h))
       in
-      let none : alone d wires cores ≡ NoEvent =
       sym (alone-sound d wires cores zero-status)
       ∙ finds-none d wires cores (wires-three d wires (both .0) .1) (cores-two cores (both .1) .1) (eventsIn wires) step (refl, count)
-      in
-      ap (restOf wires cores) none ∙ drop-length wires
+
+  nothing-left : (wires cores : List ℕ) → alone d wires cores ≡ NoEvent → unmatched d wires cores ≡ []
+  unfolding unmatched restOf
+  nothing-left wires cores none = ap (restOf wires cores) none ∙ drop-length wires
 
 -- ---- where nothing is pending
 
@@ -190,10 +191,14 @@ module _ (p : Policy) (given : policyInRange p ≡ true) where
       ∙ append-nil cores
       ∙ sym (stretch-is false before ws after)
 
+  none-alone : (before ws after : List ℕ) → quietAfter p before ≡ true → quietAfter p (before ++ ws) ≡ true
+      → alone (p .timing .response) (stretch p true before ws after) (stretch p false before ws after) ≡ NoEvent
+  none-alone before ws after first last =
+      no-event-alone (p .timing .response) (stretch p true before ws after) (stretch p false before ws after) (sound before ws after) (moved before ws after first last)
+
   all-matched : (before ws after : List ℕ) → quietAfter p before ≡ true → quietAfter p (before ++ ws) ≡ true
       → unmatched (p .timing .response) (stretch p true before ws after) (stretch p false before ws after) ≡ []
-  all-matched before ws after first last =
-      all-partners (p .timing .response) (stretch p true before ws after) (stretch p false before ws after) (sound before ws after) (moved before ws after first last)
+  all-matched before ws after first last = nothing-left (p .timing .response) (stretch p true before ws after) (stretch p false before ws after) (none-alone before ws after first last)
 
   handed-back : (activates : Bool) (before ws after out : List ℕ) → length (stretch p activates before ws after) ≤ length out → recordStatus activates ws (cutLog p before ws after) (startOf p before) out ≡ 0
   unfolding stretch
@@ -233,5 +238,17 @@ module _ (p : Policy) (given : policyInRange p ≡ true) where
       (λ e. eq-eqb (length wires) (length cores) (sizes ∙ ap (λ (l : List ℕ). length cores + length l) (quiet-none p s (fits-after ws) e) ∙ add-zero (length cores)))
       (λ e. let same = eqb-true (length wires) (length cores) e in none-quiet p s (fits-after ws) (omega (arith, sizes, same)))
 
-  pub run-matches : RunMatches p
-  run-matches = record { sound = sound; all-matched = all-matched; handed-back = handed-back; quiet-shown = quiet-shown; quiet-at-first = quiet-at-first; start-is = start-is }
+  run-matches : RunMatches p
+  run-matches =
+      record {
+        sound = sound;
+        all-matched = all-matched;
+        none-alone = none-alone;
+        handed-back = handed-back;
+        quiet-shown = quiet-shown;
+        quiet-at-first = quiet-at-first;
+        start-is = start-is;
+      }
+
+pub runs-match : RunsMatch
+runs-match p given = run-matches p given

@@ -16,7 +16,7 @@ use Rattle.basics.proofs.Truth.{either, false-unless, true-unless}
 use Rattle.basics.proofs.Below.{lt-or-ge}
 use Rattle.recordings.specs.Recording.{eventsIn, cycleAt, wordAt, rises, soundness, statusOf}
 use Rattle.recordings.specs.Match.{partners, firstAlone, alone, restOf, unmatched}
-use Rattle.matched.specs.Taken.{Event, activated, answered, isActivate, placeOf, IsEvent, due, word, Partners, HasPartner, Before, FirstWithout, AllHave, Matching, Matches}
+use Rattle.matched.specs.Taken.{Event, activate, response, isActivate, standsAt, IsEvent, due, word, Partners, HasPartner, Before, FirstWithout, AllHave, restFrom, Matching, Matches}
 use Rattle.recordings.specs.declared.Soundness.the-variants.{Sound}
 use Rattle.recordings.specs.declared.Alone.{Alone}
 use Rattle.recordings.specs.declared.Alone.the-variants.{NoEvent, Activate, Response}
@@ -35,17 +35,17 @@ numberOf NoEvent = 0
 numberOf (Activate at) = at
 numberOf (Response at) = at
 
-same-place : (e f : Event) → placeOf e ≡ placeOf f → e ≡ f
-unfolding placeOf kindOf numberOf
-same-place (activated i) (activated k) e = let twice = ap numberOf e in let same : i ≡ k = omega (arith, twice) in ap activated same
-same-place (activated i) (answered j) e = absurd (eqb-false 1 2 refl (ap kindOf e))
-same-place (answered j) (activated i) e = absurd (eqb-false 2 1 refl (ap kindOf e))
-same-place (answered j) (answered k) e = let twice = ap numberOf e in let same : j ≡ k = omega (arith, twice) in ap answered same
+same-place : (e f : Event) → standsAt e ≡ standsAt f → e ≡ f
+unfolding standsAt kindOf numberOf
+same-place (activate i) (activate k) e = let twice = ap numberOf e in let same : i ≡ k = omega (arith, twice) in ap activate same
+same-place (activate i) (response j) e = absurd (eqb-false 1 2 refl (ap kindOf e))
+same-place (response j) (activate i) e = absurd (eqb-false 2 1 refl (ap kindOf e))
+same-place (response j) (response k) e = let twice = ap numberOf e in let same : j ≡ k = omega (arith, twice) in ap response same
 
-no-place : (e : Event) → (placeOf e ≡ NoEvent) → ⊥
-unfolding placeOf kindOf
-no-place (activated i) e = eqb-false 1 0 refl (ap kindOf e)
-no-place (answered j) e = eqb-false 2 0 refl (ap kindOf e)
+no-place : (e : Event) → (standsAt e ≡ NoEvent) → ⊥
+unfolding standsAt kindOf
+no-place (activate i) e = eqb-false 1 0 refl (ap kindOf e)
+no-place (response j) e = eqb-false 2 0 refl (ap kindOf e)
 
 -- of three truth values, two that are not the first are the same
 third : (a b c : Bool) → ((a ≡ b) → ⊥) → ((a ≡ c) → ⊥) → b ≡ c
@@ -63,43 +63,43 @@ same-cycle r up i j small other e =
 module _ (delay : ℕ) (wires cores : List ℕ) where
   -- ---- partners, by their numbers
 
-  with-response : (i j : ℕ) → j < eventsIn cores → partners delay wires cores i j ≡ true → HasPartner delay wires cores (activated i)
+  with-response : (i j : ℕ) → j < eventsIn cores → partners delay wires cores i j ≡ true → HasPartner delay wires cores (activate i)
   unfolding IsEvent word due isActivate
   with-response i j small e =
       record {
-        other = answered j;
+        other = response j;
         recorded = small;
         partners = record { other-kind = λ q. true≢false q; same-word = partners-word delay wires cores i j e; same-due = partners-due delay wires cores i j e };
       }
 
-  with-activate : (i j : ℕ) → i < eventsIn wires → partners delay wires cores i j ≡ true → HasPartner delay wires cores (answered j)
+  with-activate : (i j : ℕ) → i < eventsIn wires → partners delay wires cores i j ≡ true → HasPartner delay wires cores (response j)
   unfolding IsEvent word due isActivate
   with-activate i j small e =
       record {
-        other = activated i;
+        other = activate i;
         recorded = small;
         partners = record { other-kind = λ q. false≢true q; same-word = sym (partners-word delay wires cores i j e); same-due = sym (partners-due delay wires cores i j e) };
       }
 
   -- and back
-  the-response : (i : ℕ) (f : Event) → IsEvent delay wires cores f → Partners delay wires cores (activated i) f → (j : ℕ) × (j < eventsIn cores) × (partners delay wires cores i j ≡ true)
+  the-response : (i : ℕ) (f : Event) → IsEvent delay wires cores f → Partners delay wires cores (activate i) f → (j : ℕ) × (j < eventsIn cores) × (partners delay wires cores i j ≡ true)
   unfolding IsEvent word due isActivate
-  the-response i (activated k) small both = absurd (both .other-kind refl)
-  the-response i (answered j) small both = (j, small, are-partners delay wires cores i j (both .same-word) (both .same-due))
+  the-response i (activate k) small both = absurd (both .other-kind refl)
+  the-response i (response j) small both = (j, small, are-partners delay wires cores i j (both .same-word) (both .same-due))
 
-  the-activate : (j : ℕ) (f : Event) → IsEvent delay wires cores f → Partners delay wires cores (answered j) f → (i : ℕ) × (i < eventsIn wires) × (partners delay wires cores i j ≡ true)
+  the-activate : (j : ℕ) (f : Event) → IsEvent delay wires cores f → Partners delay wires cores (response j) f → (i : ℕ) × (i < eventsIn wires) × (partners delay wires cores i j ≡ true)
   unfolding IsEvent word due isActivate
-  the-activate j (activated i) small both = (i, small, are-partners delay wires cores i j (sym (both .same-word)) (sym (both .same-due)))
-  the-activate j (answered k) small both = absurd (both .other-kind refl)
+  the-activate j (activate i) small both = (i, small, are-partners delay wires cores i j (sym (both .same-word)) (sym (both .same-due)))
+  the-activate j (response k) small both = absurd (both .other-kind refl)
 
   module _ (wires-rise : rises wires ≡ true) (cores-rise : rises cores ≡ true) where
     -- ---- the three ends
 
     -- an event in step has a partner
-    in-step-activate : (k : ℕ) → InStep delay wires cores k → k ≤ eventsIn cores → (i : ℕ) → i < k → HasPartner delay wires cores (activated i)
+    in-step-activate : (k : ℕ) → InStep delay wires cores k → k ≤ eventsIn cores → (i : ℕ) → i < k → HasPartner delay wires cores (activate i)
     in-step-activate k steps inside i h = with-response i i (omega (arith, h, inside)) (steps i h)
 
-    in-step-response : (k : ℕ) → InStep delay wires cores k → k ≤ eventsIn wires → (j : ℕ) → j < k → HasPartner delay wires cores (answered j)
+    in-step-response : (k : ℕ) → InStep delay wires cores k → k ≤ eventsIn wires → (j : ℕ) → j < k → HasPartner delay wires cores (response j)
     in-step-response k steps inside j h = with-activate j j (omega (arith, h, inside)) (steps j h)
 
     -- an event that is due before one of its recording comes before it
@@ -107,14 +107,14 @@ module _ (delay : ℕ) (wires cores : List ℕ) where
     earlier r up i k small l = ⊎-elim (λ (h : i < k). h) (λ (h : k ≤ i). absurd (lt-irrefl (cycleAt r i) (omega (arith, l, not-before r up k i h small)))) (lt-or-ge i k)
 
     -- what is taken before the activate at which they end
-    before-activate : (k : ℕ) → InStep delay wires cores k → ActivateAt delay wires cores k → (f : Event) → IsEvent delay wires cores f → Before delay wires cores f (activated k) → HasPartner delay wires cores f
+    before-activate : (k : ℕ) → InStep delay wires cores k → ActivateAt delay wires cores k → (f : Event) → IsEvent delay wires cores f → Before delay wires cores f (activate k) → HasPartner delay wires cores f
     unfolding IsEvent due isActivate
-    before-activate k steps at (activated i) small before =
+    before-activate k steps at (activate i) small before =
         ⊎-elim
         (λ l. in-step-activate k steps (at .1) i (earlier wires wires-rise i k small (omega (arith, l))))
-        (λ tie. absurd (true≢false (tie .answer)))
+        (λ tie. absurd (true≢false (tie .response-then)))
         before
-    before-activate k steps at (answered j) small before =
+    before-activate k steps at (response j) small before =
         ⊎-elim
         (λ l.
         ⊎-elim
@@ -123,10 +123,10 @@ module _ (delay : ℕ) (wires cores : List ℕ) where
         let here = at .2 (omega (arith, h, small)) in
         absurd (lt-irrefl (cycleAt cores j) (omega (arith, l, here .1, not-before cores cores-rise k j h small))))
         (lt-or-ge j k))
-        (λ tie. absurd (false≢true (tie .activate)))
+        (λ tie. absurd (false≢true (tie .activate-first)))
         before
 
-    first-activate : (k : ℕ) → InStep delay wires cores k → ActivateAt delay wires cores k → FirstWithout delay wires cores (activated k)
+    first-activate : (k : ℕ) → InStep delay wires cores k → ActivateAt delay wires cores k → FirstWithout delay wires cores (activate k)
     unfolding IsEvent
     first-activate k steps at =
         record {
@@ -136,9 +136,9 @@ module _ (delay : ℕ) (wires cores : List ℕ) where
         }
 
     -- what is taken before the response at which they end
-    before-response : (k : ℕ) → InStep delay wires cores k → ResponseAt delay wires cores k → (f : Event) → IsEvent delay wires cores f → Before delay wires cores f (answered k) → HasPartner delay wires cores f
+    before-response : (k : ℕ) → InStep delay wires cores k → ResponseAt delay wires cores k → (f : Event) → IsEvent delay wires cores f → Before delay wires cores f (response k) → HasPartner delay wires cores f
     unfolding IsEvent due isActivate
-    before-response k steps at (activated i) small before =
+    before-response k steps at (activate i) small before =
         let no-later : cycleAt wires i + delay ≤ cycleAt cores k = ⊎-elim (λ l. omega (arith, l)) (λ tie. omega (arith, tie .same-due)) before in
         ⊎-elim
         (λ (h : i < k). in-step-activate k steps (omega (arith, at .0)) i h)
@@ -146,10 +146,10 @@ module _ (delay : ℕ) (wires cores : List ℕ) where
         let here = at .2 (omega (arith, h, small)) in
         absurd (lt-irrefl (cycleAt cores k) (omega (arith, no-later, here, not-before wires wires-rise k i h small))))
         (lt-or-ge i k)
-    before-response k steps at (answered j) small before =
-        ⊎-elim (λ l. in-step-response k steps (at .1) j (earlier cores cores-rise j k small l)) (λ tie. absurd (false≢true (tie .activate))) before
+    before-response k steps at (response j) small before =
+        ⊎-elim (λ l. in-step-response k steps (at .1) j (earlier cores cores-rise j k small l)) (λ tie. absurd (false≢true (tie .activate-first))) before
 
-    first-response : (k : ℕ) → InStep delay wires cores k → ResponseAt delay wires cores k → FirstWithout delay wires cores (answered k)
+    first-response : (k : ℕ) → InStep delay wires cores k → ResponseAt delay wires cores k → FirstWithout delay wires cores (response k)
     unfolding IsEvent
     first-response k steps at =
         record {
@@ -160,24 +160,24 @@ module _ (delay : ℕ) (wires cores : List ℕ) where
 
     all-have : (k : ℕ) → InStep delay wires cores k → EndAt delay wires cores k → AllHave delay wires cores
     unfolding IsEvent
-    all-have k steps at (activated i) small = in-step-activate k steps (omega (arith, at .1)) i (omega (arith, small, at .0))
-    all-have k steps at (answered j) small = in-step-response k steps (omega (arith, at .0)) j (omega (arith, small, at .1))
+    all-have k steps at (activate i) small = in-step-activate k steps (omega (arith, at .1)) i (omega (arith, small, at .0))
+    all-have k steps at (response j) small = in-step-response k steps (omega (arith, at .0)) j (omega (arith, small, at .1))
 
     -- the check names the first without a partner, or all have one
     abbrev Named : Type 0
-    Named = ((e : Event) × FirstWithout delay wires cores e × (firstAlone delay wires cores ≡ placeOf e)) ⊎ (AllHave delay wires cores × (firstAlone delay wires cores ≡ NoEvent))
+    Named = ((e : Event) × FirstWithout delay wires cores e × (firstAlone delay wires cores ≡ standsAt e)) ⊎ (AllHave delay wires cores × (firstAlone delay wires cores ≡ NoEvent))
 
     names : Named
-    unfolding placeOf
+    unfolding standsAt
     names =
         let w = ends delay wires cores in
         let k = w .0 in
         let steps = w .1 in
         ⊎-elim
-        (λ at. inl (activated k, first-activate k steps at, finds-activate delay wires cores wires-rise cores-rise k steps at))
+        (λ at. inl (activate k, first-activate k steps at, finds-activate delay wires cores wires-rise cores-rise k steps at))
         (λ other.
         ⊎-elim
-        (λ at. inl (answered k, first-response k steps at, finds-response delay wires cores wires-rise cores-rise k steps at))
+        (λ at. inl (response k, first-response k steps at, finds-response delay wires cores wires-rise cores-rise k steps at))
         (λ at. inr (all-have k steps at, finds-none delay wires cores wires-rise cores-rise k steps at))
         other)
         (w .2)
@@ -185,20 +185,20 @@ module _ (delay : ℕ) (wires cores : List ℕ) where
     -- ---- there is one first, and one partner
 
     -- of two events that are due at once, one of each recording, with no partners, the activate is taken first
-    tied : (i j : ℕ) → FirstWithout delay wires cores (activated i) → FirstWithout delay wires cores (answered j) → (cycleAt wires i + delay ≡ cycleAt cores j) → ⊥
+    tied : (i j : ℕ) → FirstWithout delay wires cores (activate i) → FirstWithout delay wires cores (response j) → (cycleAt wires i + delay ≡ cycleAt cores j) → ⊥
     unfolding IsEvent due word isActivate
     tied i j one two same =
         ⊎-elim
         (λ e. one .no-partner (with-response i j (two .is-recorded) (are-partners delay wires cores i j (eqb-true _ _ e) same)))
-        (λ e. one .no-partner (two .before-have (activated i) (one .is-recorded) (inr (record { same-due = same; other-word = eqb-false _ _ e; activate = refl; answer = refl }))))
+        (λ e. one .no-partner (two .before-have (activate i) (one .is-recorded) (inr (record { same-due = same; other-word = eqb-false _ _ e; activate-first = refl; response-then = refl }))))
         (either (eqb (wordAt wires i) (wordAt cores j)))
 
     due-at-once : (e f : Event) → FirstWithout delay wires cores e → FirstWithout delay wires cores f → due delay wires cores e ≡ due delay wires cores f → e ≡ f
     unfolding IsEvent due
-    due-at-once (activated i) (activated k) one two same = let cycles : cycleAt wires i ≡ cycleAt wires k = omega (arith, same) in ap activated (same-cycle wires wires-rise i k (one .is-recorded) (two .is-recorded) cycles)
-    due-at-once (activated i) (answered j) one two same = absurd (tied i j one two same)
-    due-at-once (answered j) (activated i) one two same = absurd (tied i j two one (sym same))
-    due-at-once (answered j) (answered k) one two same = ap answered (same-cycle cores cores-rise j k (one .is-recorded) (two .is-recorded) same)
+    due-at-once (activate i) (activate k) one two same = let cycles : cycleAt wires i ≡ cycleAt wires k = omega (arith, same) in ap activate (same-cycle wires wires-rise i k (one .is-recorded) (two .is-recorded) cycles)
+    due-at-once (activate i) (response j) one two same = absurd (tied i j one two same)
+    due-at-once (response j) (activate i) one two same = absurd (tied i j two one (sym same))
+    due-at-once (response j) (response k) one two same = ap response (same-cycle cores cores-rise j k (one .is-recorded) (two .is-recorded) same)
 
     one-first : (e f : Event) → FirstWithout delay wires cores e → FirstWithout delay wires cores f → e ≡ f
     one-first e f one two =
@@ -213,10 +213,10 @@ module _ (delay : ℕ) (wires cores : List ℕ) where
 
     one-kind : (f g : Event) → IsEvent delay wires cores f → IsEvent delay wires cores g → isActivate f ≡ isActivate g → due delay wires cores f ≡ due delay wires cores g → f ≡ g
     unfolding IsEvent due isActivate
-    one-kind (activated i) (activated k) small other kind same = let cycles : cycleAt wires i ≡ cycleAt wires k = omega (arith, same) in ap activated (same-cycle wires wires-rise i k small other cycles)
-    one-kind (activated i) (answered j) small other kind same = absurd (true≢false kind)
-    one-kind (answered j) (activated i) small other kind same = absurd (false≢true kind)
-    one-kind (answered j) (answered k) small other kind same = ap answered (same-cycle cores cores-rise j k small other same)
+    one-kind (activate i) (activate k) small other kind same = let cycles : cycleAt wires i ≡ cycleAt wires k = omega (arith, same) in ap activate (same-cycle wires wires-rise i k small other cycles)
+    one-kind (activate i) (response j) small other kind same = absurd (true≢false kind)
+    one-kind (response j) (activate i) small other kind same = absurd (false≢true kind)
+    one-kind (response j) (response k) small other kind same = ap response (same-cycle cores cores-rise j k small other same)
 
     one-partner : (e f g : Event) → IsEvent delay wires cores f → IsEvent delay wires cores g → Partners delay wires cores e f → Partners delay wires cores e g → f ≡ g
     one-partner e f g small other one two =
@@ -238,17 +238,17 @@ module _ (delay : ℕ) (wires cores : List ℕ) where
     is-alone : firstAlone delay wires cores ≡ alone delay wires cores
     is-alone = alone-sound delay wires cores status-zero
 
-    named : (e : Event) → alone delay wires cores ≡ placeOf e → FirstWithout delay wires cores e
+    named : (e : Event) → alone delay wires cores ≡ standsAt e → FirstWithout delay wires cores e
     named e q =
         ⊎-elim
         (λ w. subst (FirstWithout delay wires cores) (same-place (w .0) e (sym (w .2) ∙ is-alone ∙ q)) (w .1))
         (λ w. absurd (no-place e (sym q ∙ sym is-alone ∙ w .1)))
         (names wires-up cores-up)
 
-    named-only : (e : Event) → FirstWithout delay wires cores e → alone delay wires cores ≡ placeOf e
+    named-only : (e : Event) → FirstWithout delay wires cores e → alone delay wires cores ≡ standsAt e
     named-only e h =
         ⊎-elim
-        (λ w. sym is-alone ∙ w .2 ∙ ap placeOf (one-first wires-up cores-up (w .0) e (w .1) h))
+        (λ w. sym is-alone ∙ w .2 ∙ ap standsAt (one-first wires-up cores-up (w .0) e (w .1) h))
         (λ w. absurd (h .no-partner (w .0 e (h .is-recorded))))
         (names wires-up cores-up)
 
@@ -259,10 +259,23 @@ module _ (delay : ℕ) (wires cores : List ℕ) where
     none-only all = ⊎-elim (λ w. absurd (w .1 .no-partner (all (w .0) (w .1 .is-recorded)))) (λ w. sym is-alone ∙ w .1) (names wires-up cores-up)
 
     -- a rest that begins at an event is not empty
-    some-left : (e : Event) → IsEvent delay wires cores e → (restOf wires cores (placeOf e) ≡ []) → ⊥
-    unfolding IsEvent restOf placeOf
-    some-left (activated i) small q = let long = within wires i small in lt-irrefl 0 (omega (arith, ap length q, length-drop (2 * i) wires, long))
-    some-left (answered j) small q = let long = within cores j small in lt-irrefl 0 (omega (arith, ap length q, length-drop (2 * j) cores, long))
+    some-left : (e : Event) → IsEvent delay wires cores e → (restOf wires cores (standsAt e) ≡ []) → ⊥
+    unfolding IsEvent restOf standsAt
+    some-left (activate i) small q = let long = within wires i small in lt-irrefl 0 (omega (arith, ap length q, length-drop (2 * i) wires, long))
+    some-left (response j) small q = let long = within cores j small in lt-irrefl 0 (omega (arith, ap length q, length-drop (2 * j) cores, long))
+
+    -- a rest that begins at an event's place begins at the event
+    rest-is-from : (e : Event) → restOf wires cores (standsAt e) ≡ restFrom delay wires cores e
+    unfolding restOf standsAt restFrom
+    rest-is-from (activate i) = refl
+    rest-is-from (response j) = refl
+
+    begins : (e : Event) → FirstWithout delay wires cores e → unmatched delay wires cores ≡ restFrom delay wires cores e
+    unfolding unmatched
+    begins e h = ap (restOf wires cores) (named-only e h) ∙ rest-is-from e
+
+    first-or-none : ((e : Event) × FirstWithout delay wires cores e) ⊎ AllHave delay wires cores
+    first-or-none = ⊎-elim (λ w. inl (w .0, w .1)) (λ w. inr (w .0)) (names wires-up cores-up)
 
     empty : unmatched delay wires cores ≡ [] → AllHave delay wires cores
     unfolding unmatched
@@ -277,8 +290,10 @@ module _ (delay : ℕ) (wires cores : List ℕ) where
     matching =
         record {
           one-partner = one-partner wires-up cores-up;
+          first-or-none = first-or-none;
           named = named;
           named-only = named-only;
+          begins = begins;
           none = none;
           none-only = none-only;
           empty = empty;

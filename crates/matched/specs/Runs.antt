@@ -6,6 +6,7 @@ use Prim.Native.Nat.{ℕ, _+_, _*_, _≤_}
 use lib.Dec.{eqb}
 use lib.ListN.{length, take, drop}
 use Rattle.basics.specs.Below.{every}
+use Rattle.policy.specs.Policy.{inRange}
 use Rattle.policy.specs.declared.Policy.{Policy}
 use Rattle.requests.specs.Sizes.{pendingPlaces}
 use Rattle.flight.specs.Flight.{dueAt}
@@ -13,9 +14,10 @@ use Rattle.state.specs.Fresh.{freshState}
 use Rattle.state.specs.declared.State.{State}
 use Rattle.rules.specs.Calls.{stateAfter, logOf}
 use Rattle.recordings.specs.Recording.{soundness}
-use Rattle.recordings.specs.Match.{unmatched}
+use Rattle.recordings.specs.Match.{alone, unmatched}
 use Rattle.recordings.specs.Logged.{ticksIn, recordingOf, recordStatus}
 use Rattle.recordings.specs.declared.Soundness.the-variants.{Sound}
+use Rattle.recordings.specs.declared.Alone.the-variants.{NoEvent}
 
 -- ---- where a log may be cut
 
@@ -42,13 +44,15 @@ module _ (p : Policy) where
   unfoldable pub stretch : Bool → List ℕ → List ℕ → List ℕ → List ℕ
   stretch activates before ws after = recordingOf activates (startOf before) ws (cutLog before ws after)
 
-  -- ---- what is promised, of every policy in range
+  -- ---- what is promised
 
   pub record RunMatches : Type 0 where
     -- both recordings of the stretch are sound, and all their events have partners
     pub sound : (before ws after : List ℕ) → soundness (p .timing .response) (stretch true before ws after) (stretch false before ws after) ≡ Sound
     pub all-matched : (before ws after : List ℕ) → quietAfter before ≡ true → quietAfter (before ++ ws) ≡ true
         → unmatched (p .timing .response) (stretch true before ws after) (stretch false before ws after) ≡ []
+    pub none-alone : (before ws after : List ℕ) → quietAfter before ≡ true → quietAfter (before ++ ws) ≡ true
+        → alone (p .timing .response) (stretch true before ws after) (stretch false before ws after) ≡ NoEvent
     -- a stretch is handed back where there is room for it: neither 17 nor 12 meets it
     pub handed-back : (activates : Bool) (before ws after out : List ℕ) → length (stretch activates before ws after) ≤ length out → recordStatus activates ws (cutLog before ws after) (startOf before) out ≡ 0
     -- where a log may be cut can be read off the log: nothing is in flight exactly if it shows as many answers as activates. It may be at its start.
@@ -56,3 +60,7 @@ module _ (p : Policy) where
     pub quiet-at-first : quietAfter [] ≡ true
     -- and its cycle is the state's
     pub start-is : (before : List ℕ) → startOf before ≡ stateAfter p (freshState p) before .cycle
+
+-- for every policy in range
+abbrev pub RunsMatch : Type 0
+RunsMatch = (p : Policy) → inRange p ≡ true → RunMatches p

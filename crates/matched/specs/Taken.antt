@@ -5,6 +5,7 @@ use mathlib.Core.Logic.{_⊎_}
 use mathlib.Core.Bool.{Bool, true, false}
 use mathlib.Core.List.{List, []}
 use Prim.Native.Nat.{ℕ, _+_, _*_, _<_}
+use lib.ListN.{drop}
 use Rattle.recordings.specs.Recording.{eventsIn, cycleAt, wordAt, soundness}
 use Rattle.recordings.specs.Match.{alone, unmatched}
 use Rattle.recordings.specs.declared.Soundness.the-variants.{Sound}
@@ -13,33 +14,33 @@ use Rattle.recordings.specs.declared.Alone.the-variants.{NoEvent, Activate, Res
 
 -- an event: the i-th activate on the wires, or the j-th answer at the cores
 pub data Event : Type 0 where
-  activated : ℕ → Event
-  answered : ℕ → Event
+  activate : ℕ → Event
+  response : ℕ → Event
 
 -- it is an activate
 unfoldable pub isActivate : Event → Bool
-isActivate (activated i) = true
-isActivate (answered j) = false
+isActivate (activate i) = true
+isActivate (response j) = false
 
 -- where it stands: the answer of `first_alone` that names it
-unfoldable pub placeOf : Event → Alone
-placeOf (activated i) = Activate (2 * i)
-placeOf (answered j) = Response (2 * j)
+unfoldable pub standsAt : Event → Alone
+standsAt (activate i) = Activate (2 * i)
+standsAt (response j) = Response (2 * j)
 
 module _ (delay : ℕ) (wires cores : List ℕ) where
   -- the two recordings have it
   unfoldable pub IsEvent : Event → Type 0
-  IsEvent (activated i) = i < eventsIn wires
-  IsEvent (answered j) = j < eventsIn cores
+  IsEvent (activate i) = i < eventsIn wires
+  IsEvent (response j) = j < eventsIn cores
 
   -- "the cycle their answer is due"
   unfoldable pub due : Event → ℕ
-  due (activated i) = cycleAt wires i + delay
-  due (answered j) = cycleAt cores j
+  due (activate i) = cycleAt wires i + delay
+  due (response j) = cycleAt cores j
 
   unfoldable pub word : Event → ℕ
-  word (activated i) = wordAt wires i
-  word (answered j) = wordAt cores j
+  word (activate i) = wordAt wires i
+  word (response j) = wordAt cores j
 
   -- "An activate and an answer are partners if the words are equal and the answer comes the answer delay .. later", each of them the other's
   pub record Partners (e f : Event) : Type 0 where
@@ -56,8 +57,8 @@ module _ (delay : ℕ) (wires cores : List ℕ) where
   pub record TieBroken (e f : Event) : Type 0 where
     pub same-due : due e ≡ due f
     pub other-word : (word e ≡ word f) → ⊥
-    pub activate : isActivate e ≡ true
-    pub answer : isActivate f ≡ false
+    pub activate-first : isActivate e ≡ true
+    pub response-then : isActivate f ≡ false
 
   -- e is taken before f
   abbrev pub Before : Event → Event → Type 0
@@ -72,13 +73,21 @@ module _ (delay : ℕ) (wires cores : List ℕ) where
   abbrev pub AllHave : Type 0
   AllHave = (e : Event) → IsEvent e → HasPartner e
 
+  -- the rest of its recording, beginning at it: an event has two numbers
+  unfoldable pub restFrom : Event → List ℕ
+  restFrom (activate i) = drop (2 * i) wires
+  restFrom (response j) = drop (2 * j) cores
+
   -- what holds of two sound recordings and any delay
   pub record Matching : Type 0 where
     -- no event has two partners
     pub one-partner : (e f g : Event) → IsEvent f → IsEvent g → Partners e f → Partners e g → f ≡ g
-    -- an event is named exactly if it is the first without a partner, and so the rest begins at it
-    pub named : (e : Event) → alone delay wires cores ≡ placeOf e → FirstWithout e
-    pub named-only : (e : Event) → FirstWithout e → alone delay wires cores ≡ placeOf e
+    -- one event is the first without a partner, or all have one
+    pub first-or-none : ((e : Event) × FirstWithout e) ⊎ AllHave
+    -- an event is named exactly if it is the first without a partner, and the rest begins at it
+    pub named : (e : Event) → alone delay wires cores ≡ standsAt e → FirstWithout e
+    pub named-only : (e : Event) → FirstWithout e → alone delay wires cores ≡ standsAt e
+    pub begins : (e : Event) → FirstWithout e → unmatched delay wires cores ≡ restFrom e
     -- none is named, and the rest is empty, exactly if all have partners
     pub none : alone delay wires cores ≡ NoEvent → AllHave
     pub none-only : AllHave → alone delay wires cores ≡ NoEvent

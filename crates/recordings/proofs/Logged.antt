@@ -14,7 +14,7 @@ use lib.Seq.{length-take-le, take-suc, getD-drop, drop-drop, sets}
 use Rattle.basics.proofs.Truth.{either}
 use Rattle.basics.proofs.Stores.{written-more}
 use Rattle.requests.specs.Sizes.{lastCycle}
-use Rattle.recordings.specs.Logged.{isTick, wordShown, eventAt, tickIn, ticksIn, recordingOf, recordStatus, recorded, outAfter}
+use Rattle.recordings.specs.Logged.{isTick, wordShown, eventAt, tickIn, ticksIn, recordingOf, recordStatus, written, recorded, outAfter}
 
 -- ---- one event
 
@@ -217,6 +217,6 @@ module _ (activates : Bool) (trace log : List ℕ) (start : ℕ) (out : List ℕ
   unfolding recorded
   taken e k = rw (e, k)
 
-  pub written : recordStatus activates trace log start out ≡ 0 → made ++ drop (length made) out ≡ outAfter activates trace log start out
+  pub out-written : recordStatus activates trace log start out ≡ 0 → written made out ≡ outAfter activates trace log start out
   unfolding outAfter
-  written e = rw e
+  out-written e = rw e

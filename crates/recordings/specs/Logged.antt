@@ -57,7 +57,10 @@ recorded activates trace log start out =
       count = cond (eqb (recordStatus activates trace log start out) 0) (length (recordingOf activates start trace log)) 0;
     }
 
--- the numbers of `out` after the call: a refused one writes nothing, and "Numbers past the written part stay"
+-- a list written to the start of another: "Numbers past the written part stay"
+unfoldable pub written : List ℕ → List ℕ → List ℕ
+written numbers out = numbers ++ drop (length numbers) out
+
+-- the numbers of `out` after the call: a refused one writes nothing
 unfoldable pub outAfter : Bool → List ℕ → List ℕ → ℕ → List ℕ → List ℕ
-outAfter activates trace log start out =
-    cond (eqb (recordStatus activates trace log start out) 0) (recordingOf activates start trace log ++ drop (length (recordingOf activates start trace log)) out) out
+outAfter activates trace log start out = cond (eqb (recordStatus activates trace log start out) 0) (written (recordingOf activates start trace log) out) out

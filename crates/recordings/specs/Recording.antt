@@ -30,7 +30,7 @@ inPairs r = eqb (length r % 2) 0
 unfoldable pub rises : List ℕ → Bool
 rises r = every (eventsIn r - 1) (λ i. ltb (cycleAt r i) (cycleAt r (suc i)))
 
--- the answer to an activate is due "the answer delay (a byte handed in) later", in 32 bits. An answer is due at its own cycle, which has no more.
+-- the answer to an activate is due "the answer delay (a byte handed in) later", in 32 bits. An answer is due at its own cycle, which is a number of 32 bits.
 unfoldable pub dueFits : ℕ → List ℕ → Bool
 dueFits delay r = every (eventsIn r) (λ i. leb (cycleAt r i + delay) 4294967295)
 

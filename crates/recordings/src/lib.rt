@@ -4,16 +4,15 @@
 ghost use mathlib.Core.Path.{_≡_};
 ghost use mathlib.Core.Bool.{true, false, cond, not};
 ghost use lib.Dec.{leb};
-ghost use mathlib.Core.List.{_++_};
 ghost use Prim.Native.Nat.{_+_, _*_, _≤_, min};
-ghost use lib.ListN.{length, drop};
+ghost use lib.ListN.{length};
 ghost use lib.Seq.{sets};
 ghost use Rattle.basics.specs.Below.{first};
 ghost use Rattle.requests.specs.Sizes.{lastCycle};
 ghost use Rattle.recordings.specs.Recording.{cycleAt, rises, dueFits, soundness};
 ghost use Rattle.recordings.specs.Match.{partners, alone, unmatched};
 ghost use Rattle.recordings.specs.declared.Alone.the-variants.{Activate, Response};
-ghost use Rattle.recordings.specs.Logged.{isTick, shownAt, wordShown, eventAt, tickIn, ticksIn, recordingOf, recorded, outAfter};
+ghost use Rattle.recordings.specs.Logged.{isTick, shownAt, wordShown, eventAt, tickIn, ticksIn, recordingOf, written, recorded, outAfter};
 use requests::LAST_CYCLE;
 
 // The answer of the question whether two recordings are sound: 0 where both are, 18 where one is not, and which one it is, the wires' first.
@@ -84,7 +83,8 @@ pub fn unsound(wires: &[u32], cores: &[u32], delay: u8) -> Soundness
 
 // ---- the first event without a partner
 
-fn lesser(a: usize, b: usize) -> usize
+// The lesser of two numbers.
+fn least(a: usize, b: usize) -> usize
     ensures { λ r. ⌜ r ≡ min a b ⌝ }
 {
     if a < b { a } else { b }
@@ -129,7 +129,7 @@ pub fn first_alone(wires: &[u32], cores: &[u32], delay: u8) -> Alone
     }
     let w = wires.len() / 2;
     let c = cores.len() / 2;
-    let n = lesser(w, c);
+    let n = least(w, c);
     let k = in_step(wires, cores, delay, n);
     if k < n {
         return at_odds(wires, cores, delay, k);
@@ -242,7 +242,7 @@ fn put(t: u32, word: u32, out: &mut [u32], at: usize) -> usize
 fn write(activates: bool, trace: &[u32], log: &[u32], start: u32, out: &mut [u32])
     requires { ⌜ (length (now log) ≡ 4 * length (now trace)) × (start + ticksIn (now trace) (now log) ≤ lastCycle) ⌝ }
     requires { ⌜ length (recordingOf activates start (now trace) (now log)) ≤ length (now out) ⌝ }
-    ensures { λ _. ⌜ now (out .exit) ≡ recordingOf activates start (now (trace .entry)) (now (log .entry)) ++ drop (length (recordingOf activates start (now (trace .entry)) (now (log .entry)))) (now (out .entry)) ⌝ }
+    ensures { λ _. ⌜ now (out .exit) ≡ written (recordingOf activates start (now (trace .entry)) (now (log .entry))) (now (out .entry)) ⌝ }
 {
     let mut at = 0;
     let mut t = start;

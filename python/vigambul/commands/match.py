@@ -16,8 +16,8 @@ MOST_DELAY = 255
 
 def recordings_of(arguments):
     """The two recordings: those that are named, else those in the folder."""
-    folder = arguments.folder and Path(arguments.folder)
-    if folder and not folder.is_dir():
+    folder = None if arguments.folder is None else Path(arguments.folder)
+    if folder is not None and not folder.is_dir():
         raise Wrong("%s: %s" % (folder, "not a folder" if folder.exists() else "no such folder"))
     recordings = []
     for side, named in ((WIRES, arguments.wires), (CORES, arguments.cores)):
@@ -32,7 +32,7 @@ def policy_file(arguments, recordings):
     if arguments.policy is not None:
         path = Path(arguments.policy)
         return path / "policy.bin" if path.is_dir() else path
-    if arguments.folder and (Path(arguments.folder) / "policy.bin").is_file():
+    if arguments.folder is not None and (Path(arguments.folder) / "policy.bin").is_file():
         return Path(arguments.folder) / "policy.bin"
     found = [path for path in (recording.path.parent / "policy.bin" for recording in recordings) if path.is_file()]
     if len(found) > 1 and read_file(found[0]) != read_file(found[1]):
@@ -56,6 +56,7 @@ def delay_of(library, arguments, policy):
 def run(arguments):
     recordings = recordings_of(arguments)
     policy = policy_file(arguments, recordings)
+    # A file that is missing is told at once, and not after the library was built.
     if policy is not None:
         read_file(policy)
     library = build.library()

@@ -13,20 +13,21 @@ from ..stretch import stretch_of
 
 
 def write_all(out, files):
-    """Writes files into a folder, which is made where there is none. What a lab recorded cannot be made anew: where one of these names is taken by a file that says something else,
-    nothing is written."""
+    """Writes files into a folder, which is made where there is none; None stands for a file that is not to be there. What a lab recorded cannot be made anew: where one of these names
+    is taken by a file that says something else, nothing is written."""
     out = Path(out)
     if out.exists() and not out.is_dir():
         raise Wrong("%s: not a folder" % out)
     for name, data in files.items():
-        if (out / name).exists() and read_file(out / name) != data:
+        if (out / name).exists() and (data is None or read_file(out / name) != data):
             raise Wrong("%s: is there already, and says something else; take another folder, or remove that file" % (out / name))
     try:
         out.mkdir(exist_ok=True)
     except OSError as error:
         raise Wrong("%s: %s" % (out, error.strerror)) from None
     for name, data in files.items():
-        write_file(out / name, data)
+        if data is not None:
+            write_file(out / name, data)
 
 
 def run(arguments):
@@ -39,7 +40,8 @@ def run(arguments):
         for line in text_lines(recording, ran.names):
             print(line)
     else:
-        beside = {path.name: read_file(path) for path in (folder.path / name for name in ("policy.bin", "policy.names")) if path.is_file()}
+        # Names of another policy would be shown for this one's classes.
+        beside = {path.name: read_file(path) if path.is_file() else None for path in (folder.path / name for name in ("policy.bin", "policy.names"))}
         write_all(arguments.output, beside | {one.side.name + NUMBERS: bytes_of(one.numbers) for one in (stretch.wires, stretch.cores)})
     sys.stdout.flush()
     print(stretch.told(), file=sys.stderr)

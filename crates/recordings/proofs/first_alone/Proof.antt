@@ -60,16 +60,16 @@ returns-2 c =
 enum-told-3 : tie.Need-enum-told-3
 enum-told-3 c = search needs
 
-lesser-requires : tie.Need-lesser-requires
-lesser-requires c κs = search needs
+least-requires : tie.Need-least-requires
+least-requires c κs = search needs
 
 in-step-requires : tie.Need-in-step-requires
-in-step-requires c κs = (sound-due (c .before), omega (arith, c .lesser .ensures), omega (arith, c .lesser .ensures))
+in-step-requires c κs = (sound-due (c .before), omega (arith, c .least .ensures), omega (arith, c .least .ensures))
 
 at-odds-requires : tie.Need-at-odds-requires
 at-odds-requires c κs =
     let n = c .before .before in
-    (sound-due (n .before), omega (arith, n .lesser .ensures, c .if1 .taken), omega (arith, n .lesser .ensures, c .if1 .taken))
+    (sound-due (n .before), omega (arith, n .least .ensures, c .if1 .taken), omega (arith, n .least .ensures, c .if1 .taken))
 
 returns-3 : tie.Need-returns-3
 unfolding eventsIn
@@ -79,7 +79,7 @@ returns-3 c =
     let told = n .before in
     let a = start-of-told told .args in
     c .at-odds .ensures
-    ∙ odds (a .delay) (a .wires .now) (a .cores .now) (wires-up told) (cores-up told) _ _ (omega (arith, n .lesser .ensures)) (omega (arith, n .lesser .ensures)) (stepped .in-step .ensures) (c .before .if1 .taken)
+    ∙ odds (a .delay) (a .wires .now) (a .cores .now) (wires-up told) (cores-up told) _ _ (omega (arith, n .least .ensures)) (omega (arith, n .least .ensures)) (stepped .in-step .ensures) (c .before .if1 .taken)
     ∙ alone-sound (a .delay) (a .wires .now) (a .cores .now) (sound told)
 
 mul-t11 : tie.Need-mul-t11
@@ -91,7 +91,7 @@ returns-4 c =
     let stepped = c .before .before in
     let told = stepped .before .before in
     let a = start-of-told told .args in
-    wires-longer (a .delay) (a .wires .now) (a .cores .now) (wires-up told) (cores-up told) _ _ (stepped .before .lesser .ensures) (stepped .in-step .ensures) (c .before .if1 .left) (c .if2 .taken)
+    wires-longer (a .delay) (a .wires .now) (a .cores .now) (wires-up told) (cores-up told) _ _ (stepped .before .least .ensures) (stepped .in-step .ensures) (c .before .if1 .left) (c .if2 .taken)
     ∙ alone-sound (a .delay) (a .wires .now) (a .cores .now) (sound told)
 
 mul-t12 : tie.Need-mul-t12
@@ -103,7 +103,7 @@ returns-5 c =
     let stepped = c .before .before .before in
     let told = stepped .before .before in
     let a = start-of-told told .args in
-    cores-longer (a .delay) (a .wires .now) (a .cores .now) (wires-up told) (cores-up told) _ _ (stepped .before .lesser .ensures) (stepped .in-step .ensures) (c .before .before .if1 .left) (c .before .if2 .left)
+    cores-longer (a .delay) (a .wires .now) (a .cores .now) (wires-up told) (cores-up told) _ _ (stepped .before .least .ensures) (stepped .in-step .ensures) (c .before .before .if1 .left) (c .before .if2 .left)
     (c .if3 .taken)
     ∙ alone-sound (a .delay) (a .wires .now) (a .cores .now) (sound told)
 
@@ -113,7 +113,7 @@ returns-6 c =
     let stepped = c .before .before .before in
     let told = stepped .before .before in
     let a = start-of-told told .args in
-    none-longer (a .delay) (a .wires .now) (a .cores .now) (wires-up told) (cores-up told) _ _ (stepped .before .lesser .ensures) (stepped .in-step .ensures) (c .before .before .if1 .left) (c .before .if2 .left)
+    none-longer (a .delay) (a .wires .now) (a .cores .now) (wires-up told) (cores-up told) _ _ (stepped .before .least .ensures) (stepped .in-step .ensures) (c .before .before .if1 .left) (c .before .if2 .left)
     (c .if3 .left)
     ∙ alone-sound (a .delay) (a .wires .now) (a .cores .now) (sound told)
 
@@ -127,7 +127,7 @@ first-alone-spec =
     enum-told-2
     returns-2
     enum-told-3
-    lesser-requires
+    least-requires
     in-step-requires
     at-odds-requires
     returns-3

@@ -8,7 +8,7 @@ use lib.ListN.{length}
 use Rattle.basics.proofs.Truth.{not-true, not-not}
 use Rattle.requests.proofs.Trace.{four-times}
 use Rattle.recordings.specs.Logged.{recordStatus}
-use Rattle.recordings.proofs.Logged.{ticks-few, same-size, refused-17, refused-12, refused-16, not-refused, refused, taken, written}
+use Rattle.recordings.proofs.Logged.{ticks-few, same-size, refused-17, refused-12, refused-16, not-refused, refused, taken, out-written}
 use borrow.Author.Needs.{needs}
 use Rattle.recordings.proofs.make.Statement.{statement}
 use Rattle.recordings.proofs.make.Tie as tie
@@ -79,7 +79,7 @@ returns-4 c =
     let none : recordStatus (a .activates) (a .trace .now) (a .log .now) (a .start) (a .out .now) ≡ 0 =
     not-refused (a .activates) (a .trace .now) (a .log .now) (a .start) (a .out .now) (fourfold (counted .before)) (omega (arith, counted .ticks .ensures, sized .before .if2 .left)) (omega (arith, count, room .if3 .left))
     in
-    (taken (a .activates) (a .trace .now) (a .log .now) (a .start) (a .out .now) none count, wrote .write .ensures ∙ written (a .activates) (a .trace .now) (a .log .now) (a .start) (a .out .now) none)
+    (taken (a .activates) (a .trace .now) (a .log .now) (a .start) (a .out .now) none count, wrote .write .ensures ∙ out-written (a .activates) (a .trace .now) (a .log .now) (a .start) (a .out .now) none)
 
 pub make-spec : {M : Type 1} → statement M
 make-spec =

@@ -6,7 +6,7 @@ use Prim.Native.Nat.{ℕ, _+_, _*_, _-_, _≤_}
 use native.Mathlib.Omega.{arith}
 use lib.ListN.{length, take, drop, getD}
 use lib.Seq.{take-all, sets}
-use Rattle.recordings.specs.Logged.{wordShown, eventAt, ticksIn, recordingOf}
+use Rattle.recordings.specs.Logged.{wordShown, eventAt, ticksIn, recordingOf, written}
 use Rattle.recordings.proofs.Logged.{ticks-more, ticks-part, eventOf, event-fits, event-more}
 use borrow.Author.Needs.{needs}
 use Rattle.recordings.proofs.write.Statement.{statement}
@@ -111,6 +111,7 @@ same-length : tie.Need-same-length Inv-loop μ-loop
 same-length c = c .before .loop .inv .2
 
 returns : tie.Need-returns Inv-loop μ-loop
+unfolding written
 returns c =
     let at = c .before in
     let a = start-of-loop at .args in

@@ -56,3 +56,9 @@ restOf wires cores (Response at) = drop at cores
 
 unfoldable pub unmatched : ℕ → List ℕ → List ℕ → List ℕ
 unmatched delay wires cores = restOf wires cores (alone delay wires cores)
+
+-- the place of the rest in memory, of the places at which the two lent slices begin, so that it is a part of "whichever recording": a number has 4 bytes, and the empty rest stands at the wires' end
+unfoldable pub restAt : ℕ × ℕ → ℕ × ℕ → List ℕ → Alone → ℕ × ℕ
+restAt atWires atCores wires NoEvent = (atWires .0, length wires * 4 + atWires .1)
+restAt atWires atCores wires (Activate at) = (atWires .0, at * 4 + atWires .1)
+restAt atWires atCores wires (Response at) = (atCores .0, at * 4 + atCores .1)

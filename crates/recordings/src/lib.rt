@@ -10,7 +10,7 @@ ghost use lib.Seq.{sets};
 ghost use Rattle.basics.specs.Below.{first};
 ghost use Rattle.requests.specs.Sizes.{lastCycle};
 ghost use Rattle.recordings.specs.Recording.{cycleAt, rises, dueFits, soundness};
-ghost use Rattle.recordings.specs.Match.{partners, alone, unmatched};
+ghost use Rattle.recordings.specs.Match.{partners, alone, unmatched, restAt};
 ghost use Rattle.recordings.specs.declared.Alone.the-variants.{Activate, Response};
 ghost use Rattle.recordings.specs.Logged.{isTick, shownAt, wordShown, eventAt, tickIn, ticksIn, recordingOf, written, recorded, outAfter};
 use requests::LAST_CYCLE;
@@ -146,6 +146,7 @@ pub fn first_alone(wires: &[u32], cores: &[u32], delay: u8) -> Alone
 // The check: the rest of whichever recording holds the first event without a partner, beginning at it; an empty rest of the wires' where all have partners, or a recording is unsound.
 pub fn unmatched<'a>(wires: &'a [u32], cores: &'a [u32], delay: u8) -> &'a [u32]
     ensures { λ r. ⌜ now r ≡ unmatched delay (now (wires .entry)) (now (cores .entry)) ⌝ }
+    ensures { λ r. ⌜ r .ptr ≡ restAt (wires .entry .ptr) (cores .entry .ptr) (now (wires .entry)) (alone delay (now (wires .entry)) (now (cores .entry))) ⌝ }
 {
     let found = first_alone(wires, cores, delay);
     match found {

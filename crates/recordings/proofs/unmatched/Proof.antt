@@ -4,7 +4,7 @@ use mathlib.Core.Path.{sym, ap, _∙_}
 use Prim.Native.Nat.{_+_, _≤_}
 use native.Mathlib.Omega.{arith}
 use lib.ListN.{length}
-use Rattle.recordings.specs.Match.{restOf, unmatched}
+use Rattle.recordings.specs.Match.{restOf, unmatched, restAt}
 use Rattle.recordings.proofs.Matching.{rest-is, activate-within, response-within}
 use borrow.Author.Needs.{needs}
 use Rattle.recordings.proofs.unmatched.Statement.{statement}
@@ -72,28 +72,34 @@ part-result-end-3 : tie.Need-part-result-end-3
 part-result-end-3 c = search needs
 
 returns : tie.Need-returns
-unfolding unmatched restOf
+unfolding unmatched restOf restAt
 returns c =
     let told = c .before in
     let asked = told .before .before in
-    let a = asked .before .before .before .args in
-    rest-is (a .wires .now) (length (a .wires .now)) ∙ ap (restOf (a .wires .now) (a .cores .now)) (sym (sym (asked .first-alone .ensures) ∙ told .enum-told .given .1))
+    let a = asked .before .before .before .args in (
+      rest-is (a .wires .now) (length (a .wires .now)) ∙ ap (restOf (a .wires .now) (a .cores .now)) (sym (sym (asked .first-alone .ensures) ∙ told .enum-told .given .1)),
+      ap (restAt (a .wires .ptr) (a .cores .ptr) (a .wires .now)) (sym (sym (asked .first-alone .ensures) ∙ told .enum-told .given .1)),
+    )
 
 returns-2 : tie.Need-returns-2
-unfolding unmatched restOf
+unfolding unmatched restOf restAt
 returns-2 c =
     let known = c .before .before in
     let asked = known .before .before in
-    let a = asked .before .before .before .args in
-    rest-is (a .wires .now) _ ∙ ap (restOf (a .wires .now) (a .cores .now)) (sym (sym (asked .first-alone .ensures) ∙ known .found .given .1))
+    let a = asked .before .before .before .args in (
+      rest-is (a .wires .now) _ ∙ ap (restOf (a .wires .now) (a .cores .now)) (sym (sym (asked .first-alone .ensures) ∙ known .found .given .1)),
+      ap (restAt (a .wires .ptr) (a .cores .ptr) (a .wires .now)) (sym (sym (asked .first-alone .ensures) ∙ known .found .given .1)),
+    )
 
 returns-3 : tie.Need-returns-3
-unfolding unmatched restOf
+unfolding unmatched restOf restAt
 returns-3 c =
     let known = c .before .before in
     let asked = known .before .before in
-    let a = asked .before .before .before .args in
-    rest-is (a .cores .now) _ ∙ ap (restOf (a .wires .now) (a .cores .now)) (sym (sym (asked .first-alone .ensures) ∙ known .found2 .given .1))
+    let a = asked .before .before .before .args in (
+      rest-is (a .cores .now) _ ∙ ap (restOf (a .wires .now) (a .cores .now)) (sym (sym (asked .first-alone .ensures) ∙ known .found2 .given .1)),
+      ap (restAt (a .wires .ptr) (a .cores .ptr) (a .wires .now)) (sym (sym (asked .first-alone .ensures) ∙ known .found2 .given .1)),
+    )
 
 pub unmatched-spec : {M : Type 1} → statement M
 unmatched-spec =

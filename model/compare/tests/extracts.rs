@@ -22,9 +22,6 @@ use vigambul_model::trace::{
     class_bits, tried, Word, COLUMN_BIT, ELIDED, LINE, OFFER_BIT, TRIED_BITS,
 };
 
-/// Numbers on both sides of a lent extract, in which a stray write shows.
-const GUARD: usize = 8;
-
 /// Classes that no policy has. Some would be one of its own in fewer bits.
 const NO_CLASSES: [u32; 8] = [16, 31, 32, 255, 256, 65_536, 1 << 31, u32::MAX];
 
@@ -127,52 +124,22 @@ impl Asked<'_> {
     /// every number in the room and around it with the model's. The status must
     /// be the one that the test expects, in the model too.
     fn check(&self, calls: &impl Calls, room: usize, status: u32) -> Result<(), String> {
-        // A number of a log may look like one of these, but not all of them do.
-        let filler = |place: usize| 0x5AA5_0000 ^ place as u32;
-        let mut numbers: Vec<u32> = (0..GUARD + room + GUARD).map(filler).collect();
-        let mut expected = numbers.clone();
-        let lent = GUARD..GUARD + room;
-        let (expected_count, expected_status) = match self.policy {
+        let mut lent = Lent::with_room(room);
+        let expected = match self.policy {
             Err(number) => (0, *number),
             Ok(policy) => {
                 let classes = self.viewer.classes();
-                let out = &mut expected[lent.clone()];
+                let out = lent.expected();
                 let (count, refusal) = extract_set(policy, classes, self.trace, self.log, out);
                 (count, refusal.map_or(0, |refusal| refusal.number()))
             }
         };
-        assert_eq!(expected_status, status, "the model's status");
-        let (count, status) = calls.extract(
-            self.file,
-            self.viewer,
-            self.trace,
-            self.log,
-            &mut numbers[lent],
-        );
-        let where_it_was = || {
-            format!(
-                "{}, {} trace numbers, a log of {}, room for {room}",
-                self.viewer,
-                self.trace.len(),
-                self.log.len()
-            )
-        };
-        if (count, status) != (expected_count, expected_status) {
-            return Err(format!(
-                "count {count}, status {status}, not {expected_count} and {expected_status}: {}",
-                where_it_was()
-            ));
-        }
-        match (0..expected.len()).find(|&place| numbers[place] != expected[place]) {
-            None => Ok(()),
-            Some(place) => Err(format!(
-                "number {} is {:08X}, not {:08X}: {}",
-                place as i64 - GUARD as i64,
-                numbers[place],
-                expected[place],
-                where_it_was()
-            )),
-        }
+        assert_eq!(expected.1, status, "the model's status");
+        let out = lent.numbers();
+        let made = calls.extract(self.file, self.viewer, self.trace, self.log, out);
+        let (trace, log) = (self.trace.len(), self.log.len());
+        let asked = format!("{}, {trace} trace numbers, a log of {log}", self.viewer);
+        lent.compare(made, expected, &asked)
     }
 }
 

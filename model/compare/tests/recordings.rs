@@ -16,9 +16,6 @@ use vigambul_model::recordings::{match_recordings, recording};
 use vigambul_model::state::LAST_CYCLE;
 use vigambul_model::trace::{Word, COLUMN_BIT, LINE, OFFER_BIT};
 
-/// Numbers on both sides of a lent recording, in which a stray write shows.
-const GUARD: usize = 8;
-
 /// Pairs of recordings. `VIGAMBUL_RECORDINGS` sets how many.
 const PAIRS: u64 = 20_000;
 
@@ -169,42 +166,20 @@ impl Asked<'_> {
     /// Makes the call with so much room, and compares the count, the status and every number in the room and
     /// around it with the model's. The status must be the one that the test expects, in the model too.
     fn check(&self, calls: &impl RecordingCalls, room: usize, status: u32) -> Result<(), String> {
-        // A number of a recording may look like one of these, but not all of them do.
-        let filler = |place: usize| 0x5AA5_0000 ^ place as u32;
-        let mut numbers: Vec<u32> = (0..GUARD + room + GUARD).map(filler).collect();
-        let mut expected = numbers.clone();
-        let lent = GUARD..GUARD + room;
         let Asked {
             of,
             trace,
             log,
             start,
         } = *self;
-        let (expected_count, refusal) =
-            recording(of, trace, log, start, &mut expected[lent.clone()]);
-        let expected_status = refusal.map_or(0, |refusal| refusal.number());
-        assert_eq!(expected_status, status, "the model's status");
-        let (count, status) = calls.recording(of, trace, log, start, &mut numbers[lent]);
-        let where_it_was = || {
-            let (trace, log) = (trace.len(), log.len());
-            format!("{of:?}, {trace} trace numbers, a log of {log}, start {start}, room for {room}")
-        };
-        if (count, status) != (expected_count, expected_status) {
-            return Err(format!(
-                "count {count}, status {status}, not {expected_count} and {expected_status}: {}",
-                where_it_was()
-            ));
-        }
-        match (0..expected.len()).find(|&place| numbers[place] != expected[place]) {
-            None => Ok(()),
-            Some(place) => Err(format!(
-                "number {} is {:08X}, not {:08X}: {}",
-                place as i64 - GUARD as i64,
-                numbers[place],
-                expected[place],
-                where_it_was()
-            )),
-        }
+        let mut lent = Lent::with_room(room);
+        let (count, refusal) = recording(of, trace, log, start, lent.expected());
+        let expected = (count, refusal.map_or(0, |refusal| refusal.number()));
+        assert_eq!(expected.1, status, "the model's status");
+        let made = calls.recording(of, trace, log, start, lent.numbers());
+        let (trace, log) = (trace.len(), log.len());
+        let asked = format!("{of:?}, {trace} trace numbers, a log of {log}, start {start}");
+        lent.compare(made, expected, &asked)
     }
 }
 

@@ -513,3 +513,62 @@ pub fn wait_for_end(child: &mut Child) -> ExitStatus {
         thread::sleep(Duration::from_millis(2));
     }
 }
+
+/// How many numbers stand around a slice that a call is lent, to see that they stay.
+const GUARD: usize = 8;
+
+/// A slice that a call is lent for writing, twice: as what is compared writes it, and as the model does.
+pub struct Lent {
+    room: usize,
+    numbers: Vec<u32>,
+    expected: Vec<u32>,
+}
+
+impl Lent {
+    pub fn with_room(room: usize) -> Lent {
+        // A number that a call writes may look like one of these, but not all of them do.
+        let filler = |place: usize| 0x5AA5_0000 ^ place as u32;
+        let numbers: Vec<u32> = (0..GUARD + room + GUARD).map(filler).collect();
+        Lent {
+            room,
+            expected: numbers.clone(),
+            numbers,
+        }
+    }
+
+    /// The slice for what is compared.
+    pub fn numbers(&mut self) -> &mut [u32] {
+        &mut self.numbers[GUARD..GUARD + self.room]
+    }
+
+    /// The slice for the model.
+    pub fn expected(&mut self) -> &mut [u32] {
+        &mut self.expected[GUARD..GUARD + self.room]
+    }
+
+    /// Compares the counts, the statuses, and every number in the room and around it.
+    pub fn compare(
+        &self,
+        made: (usize, u32),
+        expected: (usize, u32),
+        asked: &str,
+    ) -> Result<(), String> {
+        if made != expected {
+            return Err(format!(
+                "count {}, status {}, not {} and {}: {asked}, room for {}",
+                made.0, made.1, expected.0, expected.1, self.room
+            ));
+        }
+        let differs = |&place: &usize| self.numbers[place] != self.expected[place];
+        match (0..self.expected.len()).find(differs) {
+            None => Ok(()),
+            Some(place) => Err(format!(
+                "number {} is {:08X}, not {:08X}: {asked}, room for {}",
+                place as i64 - GUARD as i64,
+                self.numbers[place],
+                self.expected[place],
+                self.room
+            )),
+        }
+    }
+}

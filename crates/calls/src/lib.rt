@@ -1,5 +1,7 @@
 // An offer and a tick made singly. Each is a run over one trace number, so that a state is taken apart and put together in one place alone.
 
+#![tactic(auto)]
+
 ghost use Rattle.std.specs.Prelude.{◌≡◌};
 ghost use Rattle.rules.specs.Call.{offer, tick};
 

@@ -1,5 +1,7 @@
 // The model for other programs: numbers and slices only. `include/vigambul.h` says the same to C. A slice passes as a pointer and then its length.
 
+#![tactic(auto)]
+
 ghost use Rattle.std.specs.Prelude.{◌≡◌, true, false};
 ghost use Rattle.capi.specs.Runs.{run_status, run_log};
 ghost use Rattle.capi.specs.Extracts.{file_extract_status, file_extract_count, file_extract_out, file_set_status, file_set_count, file_set_out};
@@ -25,7 +27,7 @@ pub extern "C" fn vigambul_run(file: &[u8], trace: &[u32], log: &mut [u32]) -> u
     let p = reading.policy;
     let made = state::fresh(p);
     let s = made.state;
-    let ran = log::run(p, s, trace, log);
+    let ran = logs::run(p, s, trace, log);
     ran.status
 }
 

@@ -2,6 +2,8 @@
 // stdin, a case to a line; each prints a line or more with its name and the answer. The lines are held against the stored output, and the Rust model's tests hold the
 // stored output against the model's own answers.
 
+#![tactic(auto)]
+
 ghost use Rattle.std.specs.Prelude.{◌≤◌};
 
 use libc::{STDIN_FILENO, STDOUT_FILENO};
@@ -15,7 +17,7 @@ mod same;
 mod singles;
 
 // What a case goes by: the numbers of the trace and of its own line, and its policy and state.
-#[derive(Drop)]
+#[derive(Clone, Copy)]
 pub(crate) struct Case {
     pub trace: List,
     pub own: List,

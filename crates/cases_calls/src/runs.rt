@@ -10,7 +10,7 @@ use state::State;
 const MARKER: u32 = 7777;
 
 // What a run answers, and its log.
-#[derive(Drop)]
+#[derive(Clone, Copy)]
 struct Run {
     status: u32,
     state: State,
@@ -37,7 +37,7 @@ fn run_of(p: Policy, s: State, trace: List, from: usize, room: usize) -> Run {
     let numbers = trace.at;
     let mut log = [MARKER; 160];
     let most = least(room, 160);
-    let made = log::run(p, s, part(&numbers, from, trace.count), &mut log[0..most]);
+    let made = logs::run(p, s, part(&numbers, from, trace.count), &mut log[0..most]);
     let state = made.state;
     let list = List {
         at: log,

@@ -6,7 +6,7 @@ use requests::Request;
 use state::State;
 
 // What a call answers: its four log numbers, and the state after it.
-#[derive(Drop)]
+#[derive(Clone, Copy)]
 pub(crate) struct Called {
     pub status: u32,
     pub command: u32,

@@ -9,7 +9,7 @@ use script::{Line, List};
 const MARKER: u32 = 7777;
 
 // What an extract answers, and the slice that it wrote.
-#[derive(Drop)]
+#[derive(Clone, Copy)]
 struct Extract {
     status: u32,
     count: usize,
@@ -31,7 +31,7 @@ fn first(list: &[u32; 160], count: usize) -> &[u32] {
 }
 
 // Whom an extract is for: a class, or a set of classes with bit c for class c.
-#[derive(Drop)]
+#[derive(Clone, Copy)]
 pub(crate) enum Whose {
     Class(u32),
     Set(u32),
@@ -131,7 +131,7 @@ pub(crate) fn seen_of_run(text: &[u8], l: Line, c: Case, whose: Whose) {
     let trace = c.trace;
     let numbers = trace.at;
     let mut log = [MARKER; 160];
-    log::run(
+    logs::run(
         c.policy,
         fresh.state,
         first(&numbers, trace.count),

@@ -2,6 +2,8 @@
 // a number. They stand in the script, the file stdin, a case to a line; each prints a line or more with its name and the answer. The lines are held against the stored
 // output, and the Rust model's tests hold the stored output against the model's own answers.
 
+#![tactic(auto)]
+
 ghost use Rattle.std.specs.Prelude.{◌≤◌};
 
 use extracts::Whose;
@@ -14,7 +16,7 @@ mod policies;
 mod sets;
 
 // What a case goes by: the numbers of the policy file, of the trace, of the log and of its own line, and its policy.
-#[derive(Drop)]
+#[derive(Clone, Copy)]
 pub(crate) struct Case {
     pub file: List,
     pub trace: List,

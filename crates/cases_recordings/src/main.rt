@@ -1,6 +1,8 @@
 // The cases of W-204 that are to be run: two recordings held together, and the recordings of a log. They stand in the script, the file stdin, a case to a line; each prints a line with its name and the answer. The lines are
 // held against the stored output, and the Rust model's tests hold the stored output against the model's own answers.
 
+#![tactic(auto)]
+
 ghost use Rattle.std.specs.Prelude.{◌≤◌};
 
 use libc::{STDIN_FILENO, STDOUT_FILENO};

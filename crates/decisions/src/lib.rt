@@ -1,6 +1,8 @@
 // What is decided on single numbers: where a class's pointer moves and whether the class takes the turn, what a turn costs and how it is
 // shown, and when a gap is met.
 
+#![tactic(auto)]
+
 ghost use Rattle.std.specs.Prelude.{◌≡◌, ◌+◌, ◌-◌, ◌*◌, ◌%◌, ◌<◌, get_or};
 ghost use Rattle.rules.specs.Traversal.{moved, takes_by};
 ghost use Rattle.rules.specs.Wire.{opens_at, kind_gap, bank_gap, rank_opens};

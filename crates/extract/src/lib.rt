@@ -1,5 +1,7 @@
 // The extract: what of a log may be seen by a class, or by a set of classes (W-211).
 
+#![tactic(auto)]
+
 ghost use Rattle.std.specs.Prelude.{◌≡◌, true, [], ◌∷◌, ◌++◌, ◌+◌, ◌*◌, ◌≤◌, length, drop};
 ghost use Rattle.std.proofs.lemmas.List.Edits.{sets};
 ghost use Rattle.basics.specs.Below.{set_of};
@@ -12,7 +14,7 @@ use policy::Policy;
 use requests::{Call, words};
 
 // The answer of an extract: 0, or the number that refuses it, and how many numbers it wrote.
-#[derive(Drop)]
+#[derive(Clone, Copy)]
 pub struct Extracted {
     pub status: u32,
     pub count: usize,

@@ -1,5 +1,7 @@
 // The policy file: a contents table, then the bodies of order, turns and timing.
 
+#![tactic(auto)]
+
 ghost use Rattle.std.specs.Prelude.{◌≡◌, ◌<◌};
 ghost use Rattle.file.specs.File.{byte, word, start, body_size, kinds_fit, bodies_abut, contents_fit, lengths_fit, row_at, minimum_at, ranks_of, rank_gap_of, timing_of, held, refused_with, read_file};
 ghost use Rattle.basics.specs.Below.{list_of};
@@ -8,7 +10,7 @@ use policy::Policy;
 use timing::Timing;
 
 // The answer of reading a policy file: 0 and the policy, or the number that refuses the file and the policy of no classes, all zeros.
-#[derive(Drop)]
+#[derive(Clone, Copy)]
 pub struct Reading {
     pub status: u32,
     pub policy: Policy,

@@ -1,5 +1,7 @@
 // What is in flight: how the pending column commands and responses and the last activates are stored, and what 13 refuses of them.
 
+#![tactic(auto)]
+
 ghost use Rattle.std.specs.Prelude.{◌≡◌, ◌%◌, get_or};
 ghost use Rattle.basics.specs.Below.{every};
 ghost use Rattle.requests.specs.Sizes.{bank_places};
@@ -16,7 +18,7 @@ pub type Pending = [u32; 32];
 pub type Banks = [u32; 32];
 
 // What is on its way, and when the last activates were.
-#[derive(Drop)]
+#[derive(Clone, Copy)]
 pub struct Flight {
     // The words of the pending column commands and responses, each at its due cycle modulo 32; 0 for none.
     pub columns: Pending,

@@ -1,5 +1,7 @@
 // Masks: a set of classes as a 16-bit number, bit i standing for class i, as in a row of the order.
 
+#![tactic(auto)]
+
 ghost use Rattle.std.specs.Prelude.{◌≡◌};
 ghost use Rattle.masks.specs.Mask.{member, includes, difference, size, nth, class_mask, below_mask};
 

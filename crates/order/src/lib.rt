@@ -1,6 +1,8 @@
 // The order: a row of 16 bits for each class number, in which bit j of row i is set if class i may flow to class j.
 // The tests 3 to 6 of document 01's table, and what is read off an order: the least class, covers, classes above.
 
+#![tactic(auto)]
+
 ghost use Rattle.std.specs.Prelude.{◌≡◌, get_or};
 ghost use Rattle.order.specs.Order.{is_class_in, class_set, flows_in, strictly_in, row_fits, rows_fit, antisymmetric_at, antisymmetric, transitive_at, transitive, least_at, least_in, has_least, above_set, above_some, cover_set, above_in, longest_in};
 

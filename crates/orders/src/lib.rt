@@ -1,5 +1,7 @@
 // W-208: each legal order of one to four classes, as a policy that is fetched by its place.
 
+#![tactic(auto)]
+
 ghost use Rattle.std.specs.Prelude.{◌≡◌, cond, ◌≤◌, ◌+◌, ltb, eqb, length, get_or};
 ghost use Rattle.basics.specs.Below.{list_of};
 ghost use Rattle.file.specs.File.{byte};
@@ -27,7 +29,7 @@ const COUNTS: [u32; 5] = [0, 1, 2, 9, 76];
 const FIRSTS: [u32; 5] = [0, 0, 1, 3, 12];
 
 // The answer of fetching an order: 0 and its policy, or the number that refuses it and the policy of no classes; which, with 0, also stands for a place past the last.
-#[derive(Drop)]
+#[derive(Clone, Copy)]
 pub struct Fetched {
     pub status: u32,
     pub policy: Policy,

@@ -1,5 +1,7 @@
 // The policy: which classes there are, which may flow to which, and the turns and timing that go with them.
 
+#![tactic(auto)]
+
 ghost use Rattle.std.specs.Prelude.{◌≡◌};
 ghost use Rattle.basics.specs.Below.{list_of};
 ghost use Rattle.order.specs.Order.{cover_set};
@@ -9,7 +11,7 @@ ghost use Rattle.policy.specs.Policy.{made, no_policy, flows, strictly, least, a
 use timing::Timing;
 
 // A policy. Its arrays have an entry for each of the sixteen class numbers; those at and above the class count are 0.
-#[derive(Drop)]
+#[derive(Clone, Copy)]
 pub struct Policy {
     // How many classes there are: the classes are the numbers below this.
     pub classes: usize,
@@ -27,7 +29,7 @@ pub struct Policy {
 }
 
 // How many classes a walk tries at most, and the status: 0, or the number that refuses the question; then the bound is 0.
-#[derive(Drop)]
+#[derive(Clone, Copy)]
 pub struct Bound {
     pub status: u32,
     pub classes: u32,

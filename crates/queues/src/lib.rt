@@ -1,5 +1,7 @@
 // The waiting requests: how a class's queue is stored, as a ring, and what 13 refuses of the queues.
 
+#![tactic(auto)]
+
 ghost use Rattle.std.specs.Prelude.{◌≡◌, ◌||◌, ◌%◌, ◌<◌, leb, get_or};
 ghost use Rattle.basics.specs.Below.{every};
 ghost use Rattle.requests.specs.Sizes.{ring_places};
@@ -16,7 +18,7 @@ pub type Slots = [u32; 128];
 pub const MOST_PASSED: usize = 15;
 
 // The waiting requests, by their words: a ring of eight places for each class, at eight times the class.
-#[derive(Drop)]
+#[derive(Clone, Copy)]
 pub struct Queues {
     pub slots: Slots,
     // The place of each class's oldest request in its ring.

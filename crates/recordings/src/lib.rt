@@ -1,6 +1,8 @@
 // W-204: a lab's recordings. "Labs record activates on the command wires and answers at the cores, each as pairs of cycle and word, and must hold the two recordings together." A
 // recording is a slice of numbers: cycle, word, cycle, word.
 
+#![tactic(auto)]
+
 ghost use Rattle.std.specs.Prelude.{◌≡◌, true, false, cond, not, leb, ◌+◌, ◌*◌, ◌≤◌, min, length};
 ghost use Rattle.std.proofs.lemmas.List.Edits.{sets};
 ghost use Rattle.basics.specs.Below.{first};
@@ -13,7 +15,7 @@ ghost use Rattle.recordings.specs.Logged.{is_tick, shown_at, word_shown, event_a
 use requests::LAST_CYCLE;
 
 // The answer of the question whether two recordings are sound: 0 where both are, 18 where one is not, and which one it is, the wires' first.
-#[derive(Drop)]
+#[derive(Clone, Copy)]
 pub enum Soundness {
     Sound,
     WiresUnsound,
@@ -21,7 +23,7 @@ pub enum Soundness {
 }
 
 // The first event without a partner: none, an activate at its place in the wires' recording, or a response at its place in the cores'.
-#[derive(Drop)]
+#[derive(Clone, Copy)]
 pub enum Alone {
     NoEvent,
     Activate(usize),
@@ -29,7 +31,7 @@ pub enum Alone {
 }
 
 // The answer of making a recording: 0, or the number that refuses it, and how many numbers it wrote.
-#[derive(Drop)]
+#[derive(Clone, Copy)]
 pub struct Recorded {
     pub status: u32,
     pub count: usize,

@@ -1,5 +1,7 @@
 // Requests: a request and its word, what the command wires carry, what a tick shows, and the words of a trace told apart.
 
+#![tactic(auto)]
+
 ghost use Rattle.std.specs.Prelude.{◌≡◌};
 ghost use Rattle.requests.specs.Trace.{call_of};
 
@@ -14,7 +16,7 @@ pub const BANK_PLACES: usize = 32;
 pub const LAST_CYCLE: u32 = 16777215;
 
 // A request, as an offer makes it.
-#[derive(Drop)]
+#[derive(Clone, Copy)]
 pub struct Request {
     pub class: u32,
     // 0 is a read, 1 a write.
@@ -26,7 +28,7 @@ pub struct Request {
 }
 
 // What the command wires carried in a tick.
-#[derive(Drop)]
+#[derive(Clone, Copy)]
 pub enum Wires {
     Nothing,
     Activate(Request),
@@ -35,7 +37,7 @@ pub enum Wires {
 }
 
 // What a tick shows.
-#[derive(Drop)]
+#[derive(Clone, Copy)]
 pub struct Record {
     pub wires: Wires,
     // The word of the response, 0 for none. Document 01: the answer.
@@ -45,7 +47,7 @@ pub struct Record {
 }
 
 // What a trace word is.
-#[derive(Drop)]
+#[derive(Clone, Copy)]
 pub enum Call {
     Tick,
     Offer(Request),

@@ -1,6 +1,8 @@
 // The scheduler: the calls of a trace one after the other, in place. The traversal gives each turn an owner, and each tick drives the command wires and hands responses
 // back. The crates `calls` and `log` hand its run on, as single calls and as document 01's run.
 
+#![tactic(auto)]
+
 ghost use Rattle.std.specs.Prelude.{◌≡◌, true, ◌++◌, ◌+◌, ◌*◌, ◌≤◌, length, drop};
 ghost use Rattle.state.specs.Range.{in_range};
 ghost use Rattle.state.specs.declared.State.{State};

@@ -20,7 +20,7 @@ use wires::Instant;
 
 // The numbers of a state that stand in no array, and four that need not be worked out at each tick: the offset in the turn, the policy's least class, how many
 // turns of an epoch come before its home turns, and a tick, counted from 1, before which none of the owner's requests may go (0 where that is not known; see `wires::Instant`).
-#[derive(Drop)]
+#[derive(Clone, Copy)]
 pub struct Moment {
     pub cycle: u32,
     pub offset: u32,
@@ -34,7 +34,7 @@ pub struct Moment {
 }
 
 // What a call in place left, beside the arrays, and its four numbers in the log.
-#[derive(Drop)]
+#[derive(Clone, Copy)]
 pub struct Called {
     pub moment: Moment,
     pub status: u32,

@@ -18,14 +18,14 @@ use super::{lookahead, traversal};
 use policy::Policy;
 
 // Where a turn's traversal starts: the class, and whether the turn is a home turn, which is then that class's.
-#[derive(Drop)]
+#[derive(Clone, Copy)]
 pub struct First {
     pub class: usize,
     pub home: bool,
 }
 
 // Who has the turn, whether its dead time is elided, and the turn's number in the log: 0 unless the turn starts.
-#[derive(Drop)]
+#[derive(Clone, Copy)]
 pub struct Owned {
     pub owner: usize,
     pub elided: bool,

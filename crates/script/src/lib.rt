@@ -1,12 +1,14 @@
 // The script of a test program: where its lines stand, which numbers they hold, and what is printed of them. No contract can say what is printed.
 
+#![tactic(auto)]
+
 ghost use Rattle.std.specs.Prelude.{◌≡◌, cond, ◌<◌, eqb, length, get_or};
 ghost use Rattle.script.specs.Script.{after, next_line, digit_of, grown, token_after, with_token, numbers_of};
 
 use libc::STDOUT_FILENO;
 
 // A line: its first letter, where its name and its numbers start, and where the next line does; and of the lines before it that it goes by, where their numbers start.
-#[derive(Drop)]
+#[derive(Clone, Copy)]
 pub struct Line {
     pub letter: u8,
     pub name: usize,
@@ -19,14 +21,14 @@ pub struct Line {
 }
 
 // A list of numbers, and how many there are.
-#[derive(Drop)]
+#[derive(Clone, Copy)]
 pub struct List {
     pub at: [u32; 160],
     pub count: usize,
 }
 
 // What is read of a number. The base is 0 between two numbers, and 1 in a word, whose number is its first letter.
-#[derive(Drop)]
+#[derive(Clone, Copy)]
 struct Token {
     base: u32,
     value: u32,

@@ -1,5 +1,7 @@
 // The state between two calls, the fresh state, and what is in range. And the answers of the calls, which hold one.
 
+#![tactic(auto)]
+
 ghost use Rattle.std.specs.Prelude.{◌≡◌, ◌&&◌, leb, get_or};
 ghost use Rattle.basics.specs.Below.{every};
 ghost use Rattle.masks.specs.Mask.{size};
@@ -12,7 +14,7 @@ use queues::Queues;
 use requests::{LAST_CYCLE, Record};
 
 // Who has the turn, and what each class has left.
-#[derive(Drop)]
+#[derive(Clone, Copy)]
 pub struct Turns {
     pub owner: usize,
     // Whether the owner's dead time is elided. Document 01: dropped.
@@ -24,7 +26,7 @@ pub struct Turns {
 }
 
 // A state between two calls.
-#[derive(Drop)]
+#[derive(Clone, Copy)]
 pub struct State {
     // The number of the next tick.
     pub cycle: u32,
@@ -36,21 +38,21 @@ pub struct State {
 }
 
 // The answer of asking for a fresh state: 0, or 13 and the state of all zeros.
-#[derive(Drop)]
+#[derive(Clone, Copy)]
 pub struct Made {
     pub status: u32,
     pub state: State,
 }
 
 // The answer of an offer: 0, or the number that refuses it, and the state after it.
-#[derive(Drop)]
+#[derive(Clone, Copy)]
 pub struct Offered {
     pub status: u32,
     pub state: State,
 }
 
 // The answer of a tick: 0, or the number that refuses it, the state after it, and what it showed.
-#[derive(Drop)]
+#[derive(Clone, Copy)]
 pub struct Ticked {
     pub status: u32,
     pub state: State,
@@ -58,7 +60,7 @@ pub struct Ticked {
 }
 
 // The answer of a run: 0, or the number that refuses it, and the state after it.
-#[derive(Drop)]
+#[derive(Clone, Copy)]
 pub struct Ran {
     pub status: u32,
     pub state: State,

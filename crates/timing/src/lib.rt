@@ -1,10 +1,12 @@
 // The timing: its numbers and their bounds.
 
+#![tactic(auto)]
+
 ghost use Rattle.std.specs.Prelude.{◌≡◌, ◌-◌};
 ghost use Rattle.timing.specs.Timing.{within, gaps_within, bank_within, rank_within, timing_sound};
 
 // The numbers of the timing body. A kind is 0 for a read and 1 for a write.
-#[derive(Drop)]
+#[derive(Clone, Copy)]
 pub struct Timing {
     // The lengths of a turn and of its dead time, in cycles.
     pub turn: u32,

@@ -1,5 +1,7 @@
 // The turns: the epoch's length, each class's minimum, the caps that follow from them, and whose the home turns are.
 
+#![tactic(auto)]
+
 ghost use Rattle.std.specs.Prelude.{◌≡◌, get_or};
 ghost use Rattle.turns.specs.Turns.{minimums_sum, turns_sound, minimums_above, cap_in, home_at};
 

@@ -1,6 +1,8 @@
 // The program: reads policy.bin and trace.bin of the working folder, and prints a header and a line for each trace number. It goes through the trace in blocks, so a
 // trace of any length runs in constant memory.
 
+#![tactic(auto)]
+
 ghost use Rattle.std.specs.Prelude.{◌*◌, ◌≤◌, length};
 ghost use Rattle.io.specs.Counts.{IsPrefixLen};
 
@@ -9,14 +11,14 @@ use policy::Policy;
 use state::State;
 
 // How much of a buffer was filled, and whether a read failed.
-#[derive(Drop)]
+#[derive(Clone, Copy)]
 struct Filled {
     count: usize,
     failed: bool,
 }
 
 // The state after a block, and whether to go on.
-#[derive(Drop)]
+#[derive(Clone, Copy)]
 struct Gone {
     state: State,
     more: bool,
@@ -120,7 +122,7 @@ fn block(
     let filled = fill(fd, b"trace.bin", bytes);
     let count = filled.count;
     let n = text::words(&bytes[..count], words);
-    let ran = log::run(p, s, &words[..n], log);
+    let ran = logs::run(p, s, &words[..n], log);
     let state = ran.state;
     let length = text::lines(&log[..4 * n], text);
     let printed = print(&text[..length]);

@@ -58,7 +58,7 @@ pub(crate) fn waiting_at(slots: &Slots, class: usize, head: usize, k: usize) -> 
 }
 
 // Which request of a class goes.
-#[derive(Drop)]
+#[derive(Clone, Copy)]
 pub struct Found {
     // Its place, from the oldest; the queue's length where none may go.
     pub place: usize,

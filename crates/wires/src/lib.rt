@@ -1,6 +1,8 @@
 // The waiting requests and the command wires, in place: an offer goes to the end of its class's queue, and in each cycle the wires carry a due column command, an activate
 // of the owner's oldest request that may go, or nothing. Both functions are safe on anything that they are lent.
 
+#![tactic(auto)]
+
 ghost use Rattle.std.specs.Prelude.{◌≡◌, ℕ, List};
 ghost use Rattle.order.specs.Laws.{SmallClasses};
 ghost use Rattle.queues.specs.Waiting.{queues_of};
@@ -19,7 +21,7 @@ mod queueing;
 // The numbers that the wires are driven by: the cycle and its offset in the turn, the owner and whether its dead time is elided, and the last activate of all. And `until`, a
 // tick, counted from 1, before which none of the owner's requests may go; 0 where that is not known. It is a shortcut that changes no result: a queue in which none may go is not
 // looked through again before one may. What it says holds until an offer, an activate or a turn's start.
-#[derive(Drop)]
+#[derive(Clone, Copy)]
 pub struct Instant {
     pub cycle: u32,
     pub offset: u32,
@@ -30,7 +32,7 @@ pub struct Instant {
 }
 
 // What the wires carried, as its number in the log, the last activate of all after it, and `until` after it.
-#[derive(Drop)]
+#[derive(Clone, Copy)]
 pub struct Drove {
     pub command: u32,
     pub last: u32,

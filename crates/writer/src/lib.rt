@@ -1,5 +1,7 @@
 // A policy written as a file: what `file::read` reads.
 
+#![tactic(auto)]
+
 ghost use Rattle.std.specs.Prelude.{◌≡◌, true, ◌++◌, ◌≤◌, ◌<◌, length, get_or, drop};
 ghost use Rattle.policy.specs.Policy.{in_range};
 ghost use Rattle.writer.specs.Written.{timing_size, file_size, contents, half_of, order_byte, turns_byte, timing_bytes, file_byte, file_of, writing, out_after};
@@ -8,7 +10,7 @@ use policy::Policy;
 use timing::Timing;
 
 // The answer of writing a policy: 0, or the number that refuses it, and how many bytes were written.
-#[derive(Drop)]
+#[derive(Clone, Copy)]
 pub struct Written {
     pub status: u32,
     pub size: usize,

@@ -1,5 +1,7 @@
 // The log: a run reads a trace and writes its log.
 
+#![tactic(auto)]
+
 ghost use Rattle.std.specs.Prelude.{◌≡◌};
 ghost use Rattle.rules.specs.Run.{run, log_after};
 

@@ -1,0 +1,15 @@
+-- `decisions::bank_gap` meets its contract: a kind is 0, or else 1.
+use mathlib.Core.Path.{◌≡◌}
+use native.Mathlib.Omega.{arith}
+use borrow.Author.Rules.{rules}
+use Rattle.decisions.proofs.bank_gap.Goals as goal
+
+pub returns-then-kind-eq0 : goal.returns-then-kind-eq0
+returns-then-kind-eq0 c c =
+    let none : c.before.args.kind ≡ 0 = c.if1.true in
+    rw none
+
+pub returns-else-kind-eq0 : goal.returns-else-kind-eq0
+returns-else-kind-eq0 c c =
+    let one : c.before.args.kind ≡ 1 = omega (arith, c, c.if1.false) in
+    rw one

@@ -1,0 +1,41 @@
+-- `extract::kept` meets its contract. The invariant: `n` is how many of the first `i` numbers stay.
+use mathlib.Core.Path.{◌≡◌, refl, sym, ap, ◌∙◌}
+use mathlib.Core.List.{List}
+use mathlib.Core.Logic.{⊎_elim}
+use Prim.Native.Nat.{ℕ, ◌-◌, ◌≤◌}
+use native.Mathlib.Omega.{arith}
+use borrow.Author.Rules.{rules}
+use lib.ListN.{length, take}
+use lib.Seq.{take_all}
+use Rattle.masks.specs.Mask.{member}
+use Rattle.extract.specs.Seen.{staying}
+use Rattle.extract.proofs.Grown.{kept_more, kept_same}
+use Rattle.extract.proofs.kept.Goals as goal
+
+pub loop-i-init : goal.loop-i-init
+unfolding staying
+loop-i-init c = (refl, omega arith, omega arith)
+
+pub loop-i-preserved : goal.loop-i-preserved
+loop-i-preserved c =
+    let f = member c.args.seen in
+    let trace = c.args.trace.now in
+    let i = c.loop-i.i in
+    ⊎_elim
+    (λ w. (
+      w.1 ∙ omega (arith, c.loop-i.invariant.0, kept_more f trace i (omega arith) (sym c.stays.ensures ∙ w.0.taken)),
+      omega (arith, w.1),
+      omega arith,
+    ))
+    (λ w. (
+      w.1 ∙ c.loop-i.invariant.0 ∙ sym (kept_same f trace i (omega arith) (sym c.stays.ensures ∙ w.0.left)),
+      omega (arith, w.1),
+      omega arith,
+    ))
+    c.if-stays.branch
+
+pub returns : goal.returns
+returns c =
+    let trace = c.args.trace.now in
+    let all : take c.loop-i.i trace ≡ trace = take_all c.loop-i.i trace (omega arith) in
+    c.loop-i.invariant.0 ∙ ap (λ (l : List ℕ). length (staying (member c.args.seen) l)) all

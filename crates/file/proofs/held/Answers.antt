@@ -1,0 +1,9 @@
+-- `file::held` meets its contract: the definition, with what the callees promise.
+use borrow.Author.Rules.{rules}
+use Rattle.file.specs.File.{class_count, epoch_of, held}
+use Rattle.file.proofs.held.Goals as goal
+
+pub returns : goal.returns
+unfolding held class_count epoch_of
+returns c =
+    rw (c.made.ensures, c.timing_of-timing.ensures, c.minimums_of-minimums.ensures, c.number-epoch.ensures, c.start.ensures, c.rows_of_lem.ensures, c.byte-classes.ensures)

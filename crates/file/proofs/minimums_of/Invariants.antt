@@ -1,0 +1,12 @@
+-- `file::minimums_of` meets its contract. The invariant: the entries below `i` are filled.
+use Prim.Native.Nat.{◌-◌}
+use borrow.Author.Rules.{rules}
+use Rattle.file.specs.File.{minimum_at}
+use Rattle.basics.proofs.Loops.{Filled, filled_none, filled_more, filled-all}
+use Rattle.file.proofs.minimums_of.Given as goal
+
+abbrev pub invariant-loop-i : goal.invariant-loop-i
+invariant-loop-i l = Filled (minimum_at l.s) 16 l.minimums l.i
+
+abbrev pub decreases-loop-i : goal.decreases-loop-i
+decreases-loop-i l = 16 - l.i

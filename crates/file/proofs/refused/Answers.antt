@@ -1,0 +1,8 @@
+-- `file::refused` meets its contract: the definition, with what the callees promise.
+use borrow.Author.Rules.{rules}
+use Rattle.file.specs.File.{refused_with}
+use Rattle.file.proofs.refused.Goals as goal
+
+pub returns : goal.returns
+unfolding refused_with
+returns c = rw c.none-policy.ensures

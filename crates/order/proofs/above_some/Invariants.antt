@@ -1,0 +1,27 @@
+-- `order::above_some` meets its contract. The invariant: what is found so far are the classes above some class of the set below `k`.
+use mathlib.Core.Path.{◌≡◌, sym, ap, ap₂, ◌∙◌}
+use mathlib.Core.Logic.{⊎_elim}
+use mathlib.Core.Bool.{Bool, ◌&&◌, ◌||◌}
+use mathlib.Core.List.{List}
+use Prim.Native.Nat.{ℕ, ◌-◌, ◌^◌, ◌≤◌, ◌<◌}
+use native.Mathlib.Omega.{arith}
+use borrow.Author.Rules.{rules}
+use lib.Bits.{or_lt}
+use Rattle.basics.specs.Below.{some}
+use Rattle.masks.specs.Mask.{member}
+use Rattle.order.specs.Order.{strictly_in, above_some}
+use Rattle.basics.proofs.Truth.{or-false}
+use Rattle.basics.proofs.Below.{some-none, some-step}
+use Rattle.masks.proofs.Masks.{member-zero, member-or, is-set_of}
+use Rattle.order.proofs.Orders.{member-above}
+use Rattle.order.proofs.above_some.Given as goal
+
+-- class h is in the set, and j is strictly above it
+abbrev pub over : List ℕ → ℕ → ℕ → ℕ → Bool
+over rows set j h = member set h && strictly_in rows h j
+
+abbrev pub invariant-loop-k : goal.invariant-loop-k
+invariant-loop-k l = (l.found < 2 ^ 16) × ((j : ℕ) → j < 16 → member l.found j ≡ some l.k (over l.rows l.set j)) × (l.k ≤ 16)
+
+abbrev pub decreases-loop-k : goal.decreases-loop-k
+decreases-loop-k l = 16 - l.k

@@ -1,0 +1,21 @@
+-- `order::is_antisymmetric` meets its contract. The invariant: the test passes at every number below `i`.
+use Prim.Native.Nat.{◌-◌}
+use borrow.Author.Rules.{rules}
+use Rattle.order.specs.Order.{antisymmetric_at, antisymmetric}
+use Rattle.basics.proofs.Loops.{Passed, passed_none, passed-all, goes-on, stops}
+use Rattle.order.proofs.is_antisymmetric.Goals as goal
+
+pub loop-i-init : goal.loop-i-init
+loop-i-init c = passed_none _ 16
+
+pub returns-then-not-antisymmetric_at : goal.returns-then-not-antisymmetric_at
+unfolding antisymmetric
+returns-then-not-antisymmetric_at c = stops _ 16 c.loop-i.i c.loop-i-test.true c.antisymmetric_at.ensures c.if-not-antisymmetric_at.true
+
+pub loop-i-preserved : goal.loop-i-preserved
+loop-i-preserved c = goes-on _ 16 c.loop-i.i c.loop-i.invariant c.loop-i-test.true c.antisymmetric_at.ensures c.if-not-antisymmetric_at.false
+
+pub returns : goal.returns
+unfolding antisymmetric
+returns c =
+    passed-all _ 16 c.loop-i.i c.loop-i.invariant c.loop-i-test.false

@@ -1,0 +1,13 @@
+-- `order::rows_fit` meets its contract. The invariant: the test passes at every number below `i`.
+use Prim.Native.Nat.{◌-◌}
+use borrow.Author.Rules.{rules}
+use lib.ListN.{get_or}
+use Rattle.order.specs.Order.{row_fits, rows_fit}
+use Rattle.basics.proofs.Loops.{Passed, passed_none, passed-all, goes-on, stops}
+use Rattle.order.proofs.rows_fit.Given as goal
+
+abbrev pub invariant-loop-i : goal.invariant-loop-i
+invariant-loop-i l = Passed (λ k. row_fits l.classes k (get_or l.rows k 0)) 16 l.i
+
+abbrev pub decreases-loop-i : goal.decreases-loop-i
+decreases-loop-i l = 16 - l.i

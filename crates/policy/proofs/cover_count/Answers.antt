@@ -1,0 +1,8 @@
+-- `policy::cover_count` meets its contract: the definition, with what the callees promise.
+use borrow.Author.Rules.{rules}
+use Rattle.policy.specs.Policy.{cover_count}
+use Rattle.policy.proofs.cover_count.Goals as goal
+
+pub returns : goal.returns
+unfolding cover_count
+returns c = rw (c.size.ensures, c.Covers-of.ensures)

@@ -1,0 +1,46 @@
+-- `scheduler::turning::first_class` meets its contract: the test tells a home turn from another, and its place among the home turns is that of the definition.
+use mathlib.Core.Path.{◌≡◌, sym, ap, ap₂, ◌∙◌}
+use mathlib.Core.Bool.{Bool, true, false}
+use Prim.Native.Nat.{ℕ, ◌-◌, ◌%◌}
+use native.Mathlib.Omega.{arith}
+use borrow.Author.Rules.{rules}
+use borrow.Author.Tests.{le-leb, lt-leb}
+use Rattle.turns.specs.Turns.{free_turns, home_turn_in, home_place, home_at}
+use Rattle.policy.specs.Policy.{home_turn, home_class}
+use Rattle.policy.proofs.Laws.{policy-laws}
+use Rattle.rules.proofs.Traversal.{first_home, first-least}
+use Rattle.scheduler.specs.declared.turning.First.{First}
+use Rattle.scheduler.proofs.turning.first_class.Goals as goal
+
+-- where a traversal starts, of its parts
+abbrev made : ℕ → Bool → First
+made class home = record { class = class; home = home }
+
+-- ---- which turn it is, by the test
+other : (c : goal.Then-place-free) → home_turn c.args.p c.args.number ≡ false
+unfolding home_turn home_turn_in
+other c =
+    let a = c.args in
+    lt-leb (free_turns a.p.epoch a.p.minimums) (a.number % a.p.epoch) (omega (arith, c.requires.2, c.if-place-free.true))
+
+home : (c : goal.Else-place-free) → home_turn c.args.p c.args.number ≡ true
+unfolding home_turn home_turn_in
+home c =
+    let a = c.args in
+    le-leb (free_turns a.p.epoch a.p.minimums) (a.number % a.p.epoch) (omega (arith, c.requires.2, c.if-place-free.false))
+
+-- ----
+pub nonzero_rem-place : goal.nonzero_rem-place
+nonzero_rem-place c = omega (arith, (policy-laws c.args.p c.requires.0).capped.epoch_bounds.0)
+
+pub returns-then-place-free : goal.returns-then-place-free
+returns-then-place-free c =
+    ap₂ made (c.requires.1 ∙ sym (first-least c.args.p c.args.number (other c))) (sym (other c))
+
+pub returns : goal.returns
+unfolding home_class home_place
+returns c =
+    let p = c.args.p in
+    let number = c.args.number in
+    let class : c.home_at-class.result ≡ home_class p number = c.home_at-class.ensures ∙ ap (λ (free : ℕ). home_at p.minimums (number % p.epoch - free)) c.requires.2 in
+    ap₂ made (class ∙ sym (first_home p number (home c))) (sym (home c))

@@ -1,0 +1,42 @@
+-- `state::state_in_range` meets its contract: the definition, with what the callees promise; that the state is shaped is what its types say.
+use mathlib.Core.Path.{◌≡◌, sym, ◌∙◌}
+use mathlib.Core.Bool.{true}
+use borrow.Author.Rules.{rules}
+use borrow.Author.Tests.{eq-eqb}
+use lib.ListN.{length}
+use Rattle.policy.specs.Policy.{covers_of, cover_count, cap}
+use Rattle.basics.proofs.Truth.{and_both, not-true, not-not}
+use Rattle.state.specs.Range.{shaped, turns_in_range, state_in_range}
+use Rattle.state.proofs.state_in_range.Goals as goal
+
+-- (The state has too many fields for a search to enter them all: it is handed what is known of the turns, and of what is in flight.)
+well-shaped : (c : goal.Start) → shaped c.args.s ≡ true
+unfolding shaped
+well-shaped c =
+    let s = c.args.s in
+    let slots : length s.queues.slots ≡ 128 = search rules in
+    let heads : length s.queues.heads ≡ 16 = search rules in
+    let lengths : length s.queues.lengths ≡ 16 = search rules in
+    let passed : length s.queues.passed ≡ 16 = search rules in
+    let left : length s.turns.left ≡ 16 = search rules in
+    let pointers : length s.turns.pointers ≡ 16 = search (rules, c.well_formed.0.1.1.1.1.1.0) in
+    let columns : length s.flight.columns ≡ 32 = search (rules, c.well_formed.0.1.1.1.1.1.1) in
+    let responses : length s.flight.responses ≡ 32 = search (rules, c.well_formed.0.1.1.1.1.1.1) in
+    let banks : length s.flight.banks ≡ 32 = search (rules, c.well_formed.0.1.1.1.1.1.1) in
+    and_both
+    (and_both
+    (and_both
+    (and_both (and_both (and_both (and_both (and_both (eq-eqb _ 128 slots) (eq-eqb _ 16 heads)) (eq-eqb _ 16 lengths)) (eq-eqb _ 16 passed)) (eq-eqb _ 16 left)) (eq-eqb _ 16 pointers))
+    (eq-eqb _ 32 columns))
+    (eq-eqb _ 32 responses))
+    (eq-eqb _ 32 banks)
+
+pub returns-then-not-counts_in_range : goal.returns-then-not-counts_in_range
+unfolding state_in_range
+returns-then-not-counts_in_range c =
+    rw (well-shaped c, sym c.counts_in_range.ensures ∙ not-true _ c.if-not-counts_in_range.true)
+
+pub returns : goal.returns
+unfolding state_in_range turns_in_range cover_count covers_of cap
+returns c =
+    rw (well-shaped c, sym c.counts_in_range.ensures ∙ not-not _ c.if-not-counts_in_range.false, c.flight_in_range.ensures, c.turns_in_range.ensures, c.queues_in_range.ensures)

@@ -1,0 +1,170 @@
+-- `wires::driving::goes_at` meets its contract. The invariant: no request before the k-th may go, none of them before the tick `until`, and the look goes past the oldest only where fewer than may have
+-- passed it.
+-- ---- when a request may go, of the numbers and arrays that are lent
+use Rattle.std.proofs.Common.{◌≡◌, ℕ, ◌+◌, ◌-◌, ◌<◌, ◌≤◌, min, Bool, true, false, ◌&&◌, ◌||◌, eqb, ltb, leb, List, get_or, sym, ap, ◌∙◌, subst, ap₂, ⊎_elim, lt_of_lt_of_le, not-suc-le-zero, lt_irrefl, add-one, arith, rules, ltb-true, le-ltb, lt-ltb, eq-eqb, ne_eqb, le-leb}
+use borrow.Author.Tests.{lt-leb}
+use Rattle.timing.specs.declared.Timing.{Timing}
+use Rattle.basics.specs.Below.{some, first}
+use Rattle.basics.proofs.Truth.{either, not-both, false-unless, and_left, and_right, and_both, and-fails-left, and-fails-right, or_left, or_right}
+use Rattle.basics.proofs.Below.{lt-or-ge, at-or-below, some-found, first-none}
+use Rattle.basics.proofs.Loops.{Missed, missed-none, missed_more, missed-all, found_at}
+use Rattle.requests.specs.Word.{kind_of}
+use Rattle.queues.specs.Waiting.{place}
+use Rattle.rules.specs.Wire.{opens_at, kind_gap}
+use Rattle.wires.specs.InPlace.{opens_by, may_go_by, Scannable}
+use Rattle.wires.proofs.InPlace.{gaps-open}
+use Rattle.wires.proofs.driving.goes_at.Goals as goal
+
+module _ (timing : Timing) (last : ℕ) (slots banks : List ℕ) (class head length passed : ℕ) where
+  -- the ticks, counted from 1, at which the last activate of all lets a read and a write go, and at which the k-th request may go
+  abbrev read : ℕ
+  read = opens_at last (kind_gap timing last 0)
+  abbrev write : ℕ
+  write = opens_at last (kind_gap timing last 1)
+  abbrev opens : ℕ → ℕ
+  opens k = opens_by timing last read write banks (get_or slots (place class head k) 0)
+  abbrev may : ℕ → ℕ → Bool
+  may t = may_go_by timing t last slots banks class head passed
+  module _ (given : Scannable slots class head length) where
+    may-is : (t k : ℕ) → k < length → may t k ≡ ((eqb k 0 || ltb passed 15) && leb (opens k) (t + 1))
+    may-is t k waits = ap (λ (b : Bool). (eqb k 0 || ltb passed 15) && b) (gaps-open timing last banks (get_or slots (place class head k) 0) t (given.kind k waits))
+    -- before its tick it may not
+    shut : (t k : ℕ) → k < length → t + 1 < opens k → may t k ≡ false
+    shut t k waits early = may-is t k waits ∙ and-fails-right (eqb k 0 || ltb passed 15) (leb (opens k) (t + 1)) (lt-leb (opens k) (t + 1) early)
+    -- and before the earlier of the two ticks none may
+    both-shut : (t k : ℕ) → k < length → t + 1 < min read write → may t k ≡ false
+    both-shut t k waits early =
+        shut t k waits
+        (⊎_elim
+        (λ e. rw e (omega (arith, early)))
+        (λ e. rw e (omega (arith, early)))
+        (either (eqb (kind_of (get_or slots (place class head k) 0)) 0)))
+  -- past an oldest that so many have passed none may
+  held : (t k : ℕ) → 15 ≤ passed → 0 < k → may t k ≡ false
+  held t k many past = and-fails-left (eqb k 0 || ltb passed 15) _ (ap₂ ◌||◌ (ne_eqb k 0 (λ e. lt_irrefl 0 (subst (λ (n : ℕ). 0 < n) e past))) (le-ltb passed 15 many))
+  -- where none may, the place is the queue's length
+  none : (t : ℕ) → ((k : ℕ) → k < length → may t k ≡ false) → length ≡ first length (may t)
+  none t fails = sym (first-none (may t) length (false-unless (some length (may t)) (λ e. let it = some-found (may t) length e in not-both it.2 (fails it.0 it.1))))
+
+abbrev at_of : goal.After-opens_of-opens → ℕ
+at_of c = c.loop-k.k
+
+-- ---- what the function was lent, and what its promise rests on
+abbrev Given : goal.Start → Type 0
+Given c = Scannable c.args.slots.now c.args.class c.args.head c.args.length
+
+abbrev may-go : goal.Start → ℕ → ℕ → Bool
+may-go c = may c.args.timing c.args.last c.args.slots.now c.args.banks.now c.args.class c.args.head c.args.length c.args.passed
+
+abbrev opens-at : goal.Start → ℕ → ℕ
+opens-at c = opens c.args.timing c.args.last c.args.slots.now c.args.banks.now c.args.class c.args.head c.args.length c.args.passed
+
+-- where none may go before a tick that has not come, the place is the queue's length
+none-now : (c : goal.Start) → ((k : ℕ) → k < c.args.length → may-go c c.args.cycle k ≡ false) → c.args.length ≡ first c.args.length (may-go c c.args.cycle)
+none-now c fails = none c.args.timing c.args.last c.args.slots.now c.args.banks.now c.args.class c.args.head c.args.length c.args.passed c.args.cycle fails
+
+-- nothing waits
+pub returns-then-length-eq0 : goal.returns-then-length-eq0
+returns-then-length-eq0 c =
+    let none : c.args.length ≡ 0 = c.if-length-eq0.true in
+    let fails : (t k : ℕ) → k < c.args.length → may-go c t k ≡ false = λ t k waits. absurd (not-suc-le-zero (subst (λ (n : ℕ). k < n) none waits)) in record { first = λ g. sym none ∙ none-now c (fails c.args.cycle); until = λ g t early. fails t; passes = λ some past. absurd (not-suc-le-zero past) }
+
+-- before its tick a request may not go
+not_yet : (c : goal.Start) → Given c → (t k : ℕ) → k < c.args.length → t + 1 < opens-at c k → may-go c t k ≡ false
+not_yet c g = shut c.args.timing c.args.last c.args.slots.now c.args.banks.now c.args.class c.args.head c.args.length c.args.passed g
+
+-- the last activate of all holds both kinds back
+pub returns-then-now-first : goal.returns-then-now-first
+returns-then-now-first c =
+    let a = c.args in
+    let first-is = c.earlier-first.ensures ∙ ap₂ min c.kind_opens-read.ensures c.kind_opens-write.ensures in
+    let fails : Given c → (t : ℕ) → t + 1 < c.earlier-first.result → (k : ℕ) → k < a.length → may-go c t k ≡ false =
+    λ g t early k waits. both-shut a.timing a.last a.slots.now a.banks.now a.class a.head a.length a.passed g t k waits (subst (λ (n : ℕ). t + 1 < n) first-is early)
+    in record { first = λ g. none-now c (fails g a.cycle c.if-now-first.true); until = fails; passes = λ beyond. absurd (lt_irrefl a.length beyond) }
+
+-- ---- what the loop finds
+-- the k-th waits
+waits : (c : goal.After-opens_of-opens) → at_of c < c.args.length
+waits c = ltb-true (at_of c) c.args.length (and_left (ltb (at_of c) c.args.length) (ltb (at_of c) 8) c.loop-k-test.true)
+
+-- its tick, of the ticks worked out, is that of the definition
+opens-is : (c : goal.After-opens_of-opens) → opens_by c.args.timing c.args.last c.kind_opens-read.result c.kind_opens-write.result c.args.banks.now c.waiting_at-word.result ≡ opens-at c (at_of c)
+opens-is c =
+    let a = c.args in
+    let word = c.waiting_at-word.ensures in
+    ap (opens_by a.timing a.last c.kind_opens-read.result c.kind_opens-write.result a.banks.now) word
+    ∙ ap₂ (λ (x y : ℕ). opens_by a.timing a.last x y a.banks.now (get_or a.slots.now (place a.class a.head (at_of c)) 0)) c.kind_opens-read.ensures c.kind_opens-write.ensures
+
+-- what is handed back is no later than its tick, and where it has come so has that
+no-later : (c : goal.After-opens_of-opens) → c.Opens-of.result ≤ opens-at c (at_of c)
+no-later c = subst (λ (n : ℕ). c.Opens-of.result ≤ n) (opens-is c) c.Opens-of.ensures.0
+
+come : (c : goal.After-opens_of-opens) → c.Opens-of.result ≤ c.args.cycle + 1 → opens-at c (at_of c) ≤ c.args.cycle + 1
+come c now = subst (λ (n : ℕ). n ≤ c.args.cycle + 1) (opens-is c) (c.Opens-of.ensures.1 now)
+
+-- where that has not come, it may not go
+not-it : (c : goal.After-opens_of-opens) → Given c → (t : ℕ) → t + 1 < c.Opens-of.result → may-go c t (at_of c) ≡ false
+not-it c g t early = not_yet c g t (at_of c) (waits c) (lt_of_lt_of_le early (no-later c))
+
+pub loop-k-init : goal.loop-k-init
+loop-k-init c = (λ given. (missed-none _ _, λ i l. absurd (not-suc-le-zero l)), λ past. absurd (not-suc-le-zero past))
+
+pub returns-then-opens-now : goal.returns-then-opens-now
+returns-then-opens-now c =
+    let a = c.args in
+    let k = at_of c in
+    let inv = c.loop-k.invariant in
+    let passes : (eqb k 0 || ltb a.passed 15) ≡ true =
+    ⊎_elim (λ past. or_right (eqb k 0) (ltb a.passed 15) (lt-ltb a.passed 15 (inv.1 past))) (λ oldest. or_left (eqb k 0) (ltb a.passed 15) (eq-eqb k 0 (omega (arith, oldest)))) (lt-or-ge 0 k)
+    in record { first = λ g.
+          found_at _ a.length k (inv.0 g).0 (waits c)
+          (may-is a.timing a.last a.slots.now a.banks.now a.class a.head a.length a.passed g a.cycle k (waits c)
+          ∙ and_both passes (le-leb (opens-at c k) (a.cycle + 1) (come c c.if-opens-now.true))); until = λ g t early. absurd (not-suc-le-zero early); passes = λ waits past. inv.1 past }
+
+-- so many have passed the oldest that none but it may go
+pub returns-then-passed-ge-MOST_PASSED : goal.returns-then-passed-ge-MOST_PASSED
+returns-then-passed-ge-MOST_PASSED c =
+    let a = c.args in
+    let k = at_of c in
+    let many = c.if-passed-ge-MOST_PASSED.true in
+    let oldest : k ≡ 0 = ⊎_elim (λ past. absurd (lt_irrefl 15 (omega (arith, c.loop-k.invariant.1 past, many)))) (λ first. omega (arith, first)) (lt-or-ge 0 k) in
+    let fails : Given c → (t : ℕ) → t + 1 < c.Opens-of.result → (i : ℕ) → i < a.length → may-go c t i ≡ false =
+    λ g t early i l.
+    ⊎_elim
+    (λ past. held a.timing a.last a.slots.now a.banks.now a.class a.head a.length a.passed t i many past)
+    (λ first. let same : k ≡ i = omega (arith, oldest, first) in subst (λ (n : ℕ). may-go c t n ≡ false) same (not-it c g t early))
+    (lt-or-ge 0 i)
+    in record { first = λ g. none-now c (fails g a.cycle (omega (arith, c.if-opens-now.false))); until = λ g t early. fails g t (omega (arith, early, c.earlier-until.ensures)); passes = λ beyond. absurd (lt_irrefl a.length beyond) }
+
+pub overflow_add-k : goal.overflow_add-k
+overflow_add-k c = search (rules, waits c)
+
+pub loop-k-smaller : goal.loop-k-smaller
+loop-k-smaller c =
+    omega (arith, ltb-true (at_of c) 8 (and_right (ltb (at_of c) c.args.length) (ltb (at_of c) 8) c.loop-k-test.true))
+
+pub loop-k-preserved : goal.loop-k-preserved
+loop-k-preserved c =
+    let k = at_of c in
+    let inv = c.loop-k.invariant in
+    let least = c.earlier-until.ensures in (
+      λ g. (
+        missed_more _ c.args.length k (inv.0 g).0 (waits c) (not-it c g c.args.cycle (omega (arith, c.if-opens-now.false))),
+        λ i l.
+            ⊎_elim
+            (λ here. subst (λ (n : ℕ). c.earlier-until.result ≤ opens-at c n) (sym here) (omega (arith, least, no-later c)))
+            (λ before. omega (arith, least, (inv.0 g).1 i before))
+            (at-or-below (subst (λ (n : ℕ). i < n) (add-one k) l)),
+      ),
+      λ some. omega (arith, c.if-passed-ge-MOST_PASSED.false),
+    )
+
+-- all have been looked at, since the queue is no longer than its ring
+pub returns : goal.returns
+returns c =
+    let a = c.args in
+    let k = c.loop-k.k in
+    let inv = c.loop-k.invariant in
+    let end : Given c → a.length ≤ k =
+    λ g. ⊎_elim (λ below. absurd (not-both (and_both (lt-ltb k a.length below) (lt-ltb k 8 (omega (arith, below, g.short)))) c.loop-k-test.false)) (λ end. end) (lt-or-ge k a.length)
+    in record { first = λ g. missed-all _ a.length k (inv.0 g).0 (end g); until = λ g t early i l. not_yet c g t i l (omega (arith, early, (inv.0 g).1 i (omega (arith, l, end g)))); passes = λ beyond. absurd (lt_irrefl a.length beyond) }

@@ -1,0 +1,11 @@
+-- `wires::driving::offset_allows` meets its contract: with sound timing the difference does not wrap, and it is the definition at the offset that is handed in.
+use Rattle.std.proofs.Common.{◌≡◌, ℕ, ◌-◌, ◌||◌, ltb, ap₂, arith, rules}
+use Rattle.rules.specs.Wire.{offset_allows}
+use Rattle.wires.proofs.driving.offset_allows.Goals as goal
+
+pub returns : goal.returns
+unfolding offset_allows
+returns c (timed, c =
+    let a = c.before.args in
+    let difference : c.wrapping-sub-u32.result ≡ a.timing.turn - a.timing.dead = omega (arith, c.wrapping-sub-u32.ensures, c.wrapping-sub-u32.type-inv, timed.dead_below_turn, timed.turn_bounds) in
+    ap₂ (λ (k end : ℕ). a.elided || ltb k end) in_step difference

@@ -39,11 +39,11 @@ module _ (f : ℕ → Bool) (n : ℕ) where
   passed-not i l t = sym (every-fails f n i l t)
 
   -- the same where the code asks for the opposite of an answer r, and r is the test's
-  pub goes-on : {r : Bool} (i : ℕ) → Passed i → i < n → r ≡ f i → not r ≡ false → Passed (i + 1)
-  goes-on i h l e t = passed-more i h l (sym e ∙ not-not _ t)
+  pub goes-on : {r : Bool} (i : ℕ) → Passed i → i < n → r ≡ f i → r ≡ true → Passed (i + 1)
+  goes-on i h l e t = passed-more i h l (sym e ∙ t)
 
-  pub stops : {r : Bool} (i : ℕ) → i < n → r ≡ f i → not r ≡ true → false ≡ every n f
-  stops i l e t = passed-not i l (sym e ∙ not-true _ t)
+  pub stops : {r : Bool} (i : ℕ) → i < n → r ≡ f i → r ≡ false → false ≡ every n f
+  stops i l e t = passed-not i l (sym e ∙ t)
 
 -- ---- a loop that looks for the first number that passes
 

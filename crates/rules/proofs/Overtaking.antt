@@ -164,7 +164,7 @@ module _ (p : Policy) (c : ℕ) (s : State) (w : ℕ) (fits : in_range p s ≡ t
       (λ e.
       let ok = taken (class_fits n made) (bank_kind_rank_fit p.timing.ranks made) (ltb (get_or q.lengths d 0) 8) e in
       let small = below-sixteen n made (small-classes p s r) ok.0 in
-      let now : left_by.state.queues ≡ after = on-true status after q e in
+      let now : left-by.state.queues ≡ after = on-true status after q e in
       let kept : (is_offer w && status) ≡ true = and_both offer e in
       let new : those (of_class c) (only_if (is_offer w && status) w) ≡ only_if (of_class c w) w =
       ap (λ (b : Bool). those (of_class c) (only_if b w)) kept ∙ those-if (of_class c) true w

@@ -10,25 +10,26 @@ use Rattle.extract.specs.declared.Extracted.{Extracted}
 use Rattle.capi.specs.Extracts.{file_extract_status, file_extract_count, file_extract_out}
 use Rattle.capi.proofs.Sides.{refused-extract, taken-extract}
 use Rattle.capi.proofs.vigambul_extract.Goals as goal
+use Rattle.capi.proofs.vigambul_extract.Goals.{Start}
 
 -- the call on a policy, and what it leaves of `out`
-abbrev call : goal.Start → Policy → Extracted
+abbrev call : Start → Policy → Extracted
 call c p = extract p c.args.class c.args.trace.now c.args.log.now c.args.out.now
 
-abbrev after : goal.Start → Policy → List ℕ
+abbrev after : Start → Policy → List ℕ
 after c p = out_after p c.args.class c.args.trace.now c.args.log.now c.args.out.now
 
 pub returns-then-reading-ne0 : goal.returns-then-reading-ne0
 unfolding file_extract_status file_extract_count file_extract_out
 returns-then-reading-ne0 c =
     let number = ap (λ (r : Reading). r.status) c.read-reading.ensures in
-    let side = refused-extract c.args.file.now (call c) (after c) c.args.out.now (λ z. c.if-reading-ne0.true (number ∙ z)) in record { value = sym side.1; status_after = number ∙ sym side.0; out_after = sym side.2 }
+    let side = refused-extract c.args.file.now (call (goal.at.returns-then-reading-ne0 c).Start) (after (goal.at.returns-then-reading-ne0 c).Start) c.args.out.now (λ z. c.if-reading-ne0.true (number ∙ z)) in record { value = sym side.1; status_after = number ∙ sym side.0; out_after = sym side.2 }
 
 pub returns : goal.returns
 unfolding file_extract_status file_extract_count file_extract_out
 returns c =
     let read = c.read-reading.ensures in
-    let side = taken-extract c.args.file.now (call c) (after c) c.args.out.now (sym (ap (λ (r : Reading). r.status) read) ∙ c.if-reading-ne0.false) in
+    let side = taken-extract c.args.file.now (call (goal.at.returns c).Start) (after (goal.at.returns c).Start) c.args.out.now (sym (ap (λ (r : Reading). r.status) read) ∙ c.if-reading-ne0.false) in
     let policy = ap (λ (r : Reading). r.policy) read in
-    let answer : c.extract-extracted.result ≡ call c c.read-reading.result.policy = c.extract-extracted.ensures.value in
-    let right = answer ∙ ap (call c) policy in record { value = ap (λ (e : Extracted). e.count) right ∙ sym side.1; status_after = ap (λ (e : Extracted). e.status) right ∙ sym side.0; out_after = c.extract-extracted.ensures.out_after ∙ ap (after c) policy ∙ sym side.2 }
+    let answer : c.extract-extracted.result ≡ call (goal.at.returns c).Start c.read-reading.result.policy = c.extract-extracted.ensures.value in
+    let right = answer ∙ ap (call (goal.at.returns c).Start) policy in record { value = ap (λ (e : Extracted). e.count) right ∙ sym side.1; status_after = ap (λ (e : Extracted). e.status) right ∙ sym side.0; out_after = c.extract-extracted.ensures.out_after ∙ ap (after (goal.at.returns c).Start) policy ∙ sym side.2 }

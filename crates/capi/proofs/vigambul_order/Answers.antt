@@ -15,14 +15,14 @@ unfolding there
 returns-then-not-fetched-p c =
     let a = c.args in
     let f = c.fetch-fetched.result in
-    let side = not_there a.n a.place a.timing.now a.file.now (sym (ap there c.fetch-fetched.ensures) ∙ not-true (there f) c.if-not-fetched-p.true) in record { value = ap (λ (g : Fetched). g.status) c.fetch-fetched.ensures ∙ sym side.0; len_after = sym side.1; file_after = sym side.2 }
+    let side = not_there a.n a.place a.timing.now a.file.now (sym (ap there c.fetch-fetched.ensures) ∙ c.if-not-fetched-p.true) in record { value = ap (λ (g : Fetched). g.status) c.fetch-fetched.ensures ∙ sym side.0; len_after = sym side.1; file_after = sym side.2 }
 
 pub returns : goal.returns
 unfolding there
 returns c =
     let a = c.args in
     let f = c.fetch-fetched.result in
-    let side = is-there a.n a.place a.timing.now a.file.now (sym (ap there c.fetch-fetched.ensures) ∙ not-not (there f) c.if-not-fetched-p.false) in
+    let side = is-there a.n a.place a.timing.now a.file.now (sym (ap there c.fetch-fetched.ensures) ∙ c.if-not-fetched-p.false) in
     let policy = ap (λ (g : Fetched). g.policy) c.fetch-fetched.ensures in
     let wrote : c.write-written.result ≡ writing f.policy a.file.now = c.write-written.ensures.value in
     let right = wrote ∙ ap (λ (p : Policy). writing p a.file.now) policy in

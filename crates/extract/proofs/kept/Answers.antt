@@ -11,6 +11,7 @@ use Rattle.masks.specs.Mask.{member}
 use Rattle.extract.specs.Seen.{staying}
 use Rattle.extract.proofs.Grown.{kept_more, kept_same}
 use Rattle.extract.proofs.kept.Goals as goal
+use Rattle.extract.proofs.kept.Goals.{then-stays, else-stays}
 
 pub loop-i-init : goal.loop-i-init
 unfolding staying
@@ -21,18 +22,15 @@ loop-i-preserved c =
     let f = member c.args.seen in
     let trace = c.args.trace.now in
     let i = c.loop-i.i in
-    ⊎_elim
-    (λ w. (
-      w.1 ∙ omega (arith, c.loop-i.invariant.0, kept_more f trace i (omega arith) (sym c.stays.ensures ∙ w.0.taken)),
-      omega (arith, w.1),
+    elim c.if-stays.branch [ then-stays w ↦  (
+      w.n-is ∙ omega (arith, c.loop-i.invariant.0, kept_more f trace i (omega arith) (sym c.stays.ensures ∙ w.if-stays.true)),
+      omega (arith, w.n-is),
       omega arith,
-    ))
-    (λ w. (
-      w.1 ∙ c.loop-i.invariant.0 ∙ sym (kept_same f trace i (omega arith) (sym c.stays.ensures ∙ w.0.left)),
-      omega (arith, w.1),
+    ) | else-stays w ↦  (
+      w.n-is ∙ c.loop-i.invariant.0 ∙ sym (kept_same f trace i (omega arith) (sym c.stays.ensures ∙ w.if-stays.false)),
+      omega (arith, w.n-is),
       omega arith,
-    ))
-    c.if-stays.branch
+    ) ]
 
 pub returns : goal.returns
 returns c =

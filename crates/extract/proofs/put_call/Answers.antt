@@ -11,20 +11,21 @@ use Rattle.extract.specs.Seen.{stays}
 use Rattle.extract.specs.Extract.{line_seen_at}
 use Rattle.extract.proofs.Grown.{four-left, none_left}
 use Rattle.extract.proofs.put_call.Goals as goal
+use Rattle.extract.proofs.put_call.Goals.{Then-stays}
 
 -- the test passed
-kept : (c : goal.Then-stays) → stays (member c.args.seen) c.args.word ≡ true
+kept : (c : Then-stays) → stays (member c.args.seen) c.args.word ≡ true
 kept c = sym c.stays.ensures ∙ c.if-stays.true
 
 pub put_line-requires : goal.put_line-requires
 put_line-requires c =
     let a = c.args in
-    (kept c, omega (arith, four-left (member a.seen) a.word a.log.now a.from (kept c)))
+    (kept (goal.at.put_line-requires c).Then-stays, omega (arith, four-left (member a.seen) a.word a.log.now a.from (kept (goal.at.put_line-requires c).Then-stays)))
 
 pub returns-then-stays : goal.returns-then-stays
 unfolding line_seen_at
 returns-then-stays c =
-    let a = c.args in record { value = ap (λ (n : ℕ). a.at + n) (sym (four-left (member a.seen) a.word a.log.now a.from (kept c))); out_after = c.put_line.ensures }
+    let a = c.args in record { value = ap (λ (n : ℕ). a.at + n) (sym (four-left (member a.seen) a.word a.log.now a.from (kept (goal.at.returns-then-stays c).Then-stays))); out_after = c.put_line.ensures }
 
 pub returns : goal.returns
 returns c =

@@ -14,6 +14,7 @@ use Rattle.masks.specs.Mask.{class_mask}
 use Rattle.masks.proofs.Masks.{set_of-below}
 use Rattle.extract.specs.Seen.{seen_by_any}
 use Rattle.extract.proofs.seen_by.Goals as goal
+use Rattle.extract.proofs.seen_by.Goals.{then-flows_to_any, else-flows_to_any}
 
 -- one more class that is in the set, and one more that is not
 set_more : (f : ℕ → Bool) (c : ℕ) → f c ≡ true → set_of (c + 1) f ≡ set_of c f + 2 ^ c
@@ -48,13 +49,10 @@ loop-c-preserved c =
     let f = seen_by_any c.args.p c.args.set in
     let k = c.loop-c.c in
     let small : k < 16 = c.loop-c-test.true in (
-      ⊎_elim
-          (λ w.
-          let mask : w.1.result ≡ 2 ^ k = w.1.ensures ∙ mask_is k small in
-          let more : set_of (k + 1) f ≡ set_of k f + 2 ^ k = set_more f k (sym c.flows_to_any.ensures ∙ w.0.taken) in
-          w.2 ∙ omega (arith, mask, more, c.loop-c.invariant.0))
-          (λ w. w.1 ∙ c.loop-c.invariant.0 ∙ sym (set_same f k (sym c.flows_to_any.ensures ∙ w.0.left)))
-          c.if-flows_to_any.branch,
+      elim c.if-flows_to_any.branch [ then-flows_to_any w ↦ 
+          let mask : w.class_mask-seen.result ≡ 2 ^ k = w.class_mask-seen.ensures ∙ mask_is k small in
+          let more : set_of (k + 1) f ≡ set_of k f + 2 ^ k = set_more f k (sym c.flows_to_any.ensures ∙ w.if-flows_to_any.true) in
+          w.seen-is ∙ omega (arith, mask, more, c.loop-c.invariant.0) | else-flows_to_any w ↦  w.seen-is ∙ c.loop-c.invariant.0 ∙ sym (set_same f k (sym c.flows_to_any.ensures ∙ w.if-flows_to_any.false)) ],
       omega arith,
     )
 

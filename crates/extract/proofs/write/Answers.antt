@@ -22,7 +22,7 @@ pub put_call-at-requires : goal.put_call-at-requires
 put_call-at-requires c =
     let a = c.args in (
       omega arith,
-      omega (arith, line-fits (member a.seen) a.trace.now a.log.now c.loop-i.i (length a.out.now) (omega arith) c.pre.1),
+      omega (arith, line-fits (member a.seen) a.trace.now a.log.now c.loop-i.i (length a.out.now) (omega arith) c.requires.1),
     )
 
 pub loop-i-smaller : goal.loop-i-smaller
@@ -32,9 +32,9 @@ pub loop-i-preserved : goal.loop-i-preserved
 loop-i-preserved c =
     let a = c.args in
     let more =
-    line-more (member a.seen) a.trace.now a.log.now a.out.now c.loop-i.i (omega arith) c.pre.1 c.loop-i.invariant.0 c.loop-i.invariant.1 c.put_call-at.ensures.value c.put_call-at.ensures.out_after
+    line-more (member a.seen) a.trace.now a.log.now a.out.now c.loop-i.i (omega arith) c.requires.1 c.loop-i.invariant.0 c.loop-i.invariant.1 c.put_call-at.ensures.value c.put_call-at.ensures.out_after
     in
-    (more.0, more.1, c.put_call-at.auto.1.1.1.1.0 ∙ c.loop-i.invariant.2, omega arith)
+    (more.0, more.1, c.put_call-at.auto.out ∙ c.loop-i.invariant.2, omega arith)
 
 pub shape_of-out : goal.shape_of-out
 shape_of-out c = c.loop-i.invariant.2

@@ -11,6 +11,7 @@ use Rattle.basics.proofs.Truth.{not-true, not-not}
 use Rattle.policy.specs.declared.Policy.{Policy}
 use Rattle.file.specs.declared.Reading.{Reading}
 use Rattle.file.proofs.read.Goals as goal
+use Rattle.file.proofs.read.Goals.{After-refusal-number}
 
 -- past 1 and 2 the number is the policy's own
 past_two : (s : List ℕ) → contents_fit s ≡ true → lengths_fit s ≡ true → status s ≡ refusal (held s)
@@ -18,11 +19,11 @@ unfolding status file_tests first_failing refusal
 past_two s p q = rw (p, q)
 
 -- and that is what the call of `refusal` answered
-number_is : (c : goal.After-refusal-number) → status c.args.s.now ≡ c.refusal-number.result
-number_is c =
-    let s = c.args.s.now in
-    past_two s (sym c.contents_fit.ensures ∙ not-not _ c.if-not-contents_fit.false) (sym c.lengths_fit.ensures ∙ not-not _ c.if-not-lengths_fit.false)
-    ∙ sym (c.refusal-number.ensures ∙ ap refusal c.held-policy.ensures)
+number_is : (at : After-refusal-number) → status at.args.s.now ≡ at.refusal-number.result
+number_is at =
+    let s = at.args.s.now in
+    past_two s (sym at.contents_fit.ensures ∙ at.if-not-contents_fit.false) (sym at.lengths_fit.ensures ∙ at.if-not-lengths_fit.false)
+    ∙ sym (at.refusal-number.ensures ∙ ap refusal at.held-policy.ensures)
 
 with-policy : Policy → Reading
 with-policy p = record { status = 0; policy = p }
@@ -31,26 +32,26 @@ pub returns-then-not-contents_fit : goal.returns-then-not-contents_fit
 unfolding read_file status file_tests first_failing
 returns-then-not-contents_fit c =
     let s = c.args.s.now in
-    let fails : contents_fit s ≡ false = sym c.contents_fit.ensures ∙ not-true _ c.if-not-contents_fit.true in
+    let fails : contents_fit s ≡ false = sym c.contents_fit.ensures ∙ c.if-not-contents_fit.true in
     rw fails c.refused.ensures
 
 pub returns-then-not-lengths_fit : goal.returns-then-not-lengths_fit
 unfolding read_file status file_tests first_failing
 returns-then-not-lengths_fit c =
     let s = c.args.s.now in
-    let passes : contents_fit s ≡ true = sym c.contents_fit.ensures ∙ not-not _ c.if-not-contents_fit.false in
-    let fails : lengths_fit s ≡ false = sym c.lengths_fit.ensures ∙ not-true _ c.if-not-lengths_fit.true in
+    let passes : contents_fit s ≡ true = sym c.contents_fit.ensures ∙ c.if-not-contents_fit.false in
+    let fails : lengths_fit s ≡ false = sym c.lengths_fit.ensures ∙ c.if-not-lengths_fit.true in
     rw (passes, fails) c.refused-then-not-lengths_fit.ensures
 
 pub returns-then-number-ne0 : goal.returns-then-number-ne0
 unfolding read_file
 returns-then-number-ne0 c =
     let s = c.args.s.now in
-    let number = number_is c in
+    let number = number_is (goal.at.returns-then-number-ne0 c).After-refusal-number in
     rw (number, ne_eqb c.refusal-number.result 0 c.if-number-ne0.true) c.refused-then-number-ne0.ensures
 
 pub returns : goal.returns
 unfolding read_file with-policy
 returns c =
-    let number = number_is c in
+    let number = number_is (goal.at.returns c).After-refusal-number in
     rw (number, eq-eqb c.refusal-number.result 0 c.if-number-ne0.false) (ap with-policy c.held-policy.ensures)

@@ -16,6 +16,7 @@ use Rattle.masks.proofs.Masks.{member-zero, member-or, is-set_of}
 use Rattle.order.proofs.Orders.{member-above}
 use Rattle.order.proofs.above_some.Invariants.{over}
 use Rattle.order.proofs.above_some.Goals as goal
+use Rattle.order.proofs.above_some.Goals.{then-has, else-has}
 
 pub loop-k-init : goal.loop-k-init
 loop-k-init c = (omega arith, λ j l. member-zero j ∙ sym (some-none _), omega arith)
@@ -26,31 +27,28 @@ loop-k-preserved c =
     let set = c.args.set in
     let k = c.loop-k.k in
     let found = c.loop-k.found in
-    ⊎_elim
-    (λ w.
-    let inside = sym c.has.ensures ∙ w.0.taken in (
-      rw w.2 (or_lt 16 found w.1.result c.loop-k.invariant.0 (search rules)),
+    elim c.if-has.branch [ then-has w ↦ 
+    let inside = sym c.has.ensures ∙ w.if-has.true in (
+      rw w.found-is (or_lt 16 found w.above_set-found.result c.loop-k.invariant.0 (search rules)),
       λ j l.
-          ap (λ (x : ℕ). member x j) w.2
-          ∙ member-or found w.1.result j
+          ap (λ (x : ℕ). member x j) w.found-is
+          ∙ member-or found w.above_set-found.result j
           ∙ ap₂ ◌||◌ (c.loop-k.invariant.1 j l)
-          (ap (λ (x : ℕ). member x j) w.1.ensures ∙ member-above rows k j l ∙ sym (ap (λ (b : Bool). b && strictly_in rows k j) inside))
+          (ap (λ (x : ℕ). member x j) w.above_set-found.ensures ∙ member-above rows k j l ∙ sym (ap (λ (b : Bool). b && strictly_in rows k j) inside))
           ∙ sym (some-step (over rows set j) k),
       omega arith,
-    ))
-    (λ w.
-    let outside = sym c.has.ensures ∙ w.0.left in (
-      rw w.1 c.loop-k.invariant.0,
+    ) | else-has w ↦ 
+    let outside = sym c.has.ensures ∙ w.if-has.false in (
+      rw w.found-is c.loop-k.invariant.0,
       λ j l.
-          ap (λ (x : ℕ). member x j) w.1
+          ap (λ (x : ℕ). member x j) w.found-is
           ∙ c.loop-k.invariant.1 j l
           ∙ sym (some-step (over rows set j) k ∙ ap (λ (b : Bool). some k (over rows set j) || b && strictly_in rows k j) outside ∙ or-false _),
       omega arith,
-    ))
-    c.if-has.branch
+    ) ]
 
 pub returns : goal.returns
 unfolding above_some
 returns c =
     let end : c.loop-k.k ≡ 16 = omega arith in
-    is-set_of (λ j. some 16 (over c.args.rows c.args.set j)) c.loop-k.found c.loop-k.invariant.0 (rw end c c.loop-k.invariant.1)
+    is-set_of (λ j. some 16 (over c.args.rows c.args.set j)) c.loop-k.found c.loop-k.invariant.0 (rw end at c.loop-k.invariant.1)

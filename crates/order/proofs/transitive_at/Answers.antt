@@ -19,7 +19,7 @@ loop-j-init c = passed_none _ 16
 pub returns-then-has-includes : goal.returns-then-has-includes
 unfolding transitive_at flows_in
 returns-then-has-includes c =
-    let rows = c.args.t1 in
+    let rows = c.args.rows in
     passed-not (step rows c.row_of-row.result) 16 c.loop-j.j c.loop-j-test.true
     (implies-asked c.has.ensures c.includes.ensures c.if-has-includes.true)
     ∙ ap (λ (r : ℕ). every 16 (step rows r)) c.row_of-row.ensures
@@ -33,4 +33,4 @@ pub returns : goal.returns
 unfolding transitive_at flows_in
 returns c =
     passed-all _ 16 c.loop-j.j c.loop-j.invariant c.loop-j-test.false
-    ∙ ap (λ (r : ℕ). every 16 (step c.args.t1 r)) c.row_of-row.ensures
+    ∙ ap (λ (r : ℕ). every 16 (step c.args.rows r)) c.row_of-row.ensures

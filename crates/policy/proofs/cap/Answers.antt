@@ -5,4 +5,4 @@ use Rattle.policy.proofs.cap.Goals as goal
 
 pub returns : goal.returns
 unfolding cap
-returns c = rw c.number_of_lem.ensures
+returns c = rw c.number_of.ensures

@@ -5,4 +5,4 @@ use Rattle.policy.proofs.cover.Goals as goal
 
 pub returns : goal.returns
 unfolding cover
-returns c = rw (c.nth.ensures, c.Covers-of.ensures)
+returns c = rw (c.nth.ensures, c.covers_of.ensures)

@@ -5,4 +5,4 @@ use Rattle.policy.proofs.cover_count.Goals as goal
 
 pub returns : goal.returns
 unfolding cover_count
-returns c = rw (c.size.ensures, c.Covers-of.ensures)
+returns c = rw (c.size.ensures, c.covers_of.ensures)

@@ -13,8 +13,9 @@ use Rattle.policy.specs.Policy.{shaped, in_range}
 use Rattle.basics.proofs.Truth.{and_both}
 use Rattle.basics.proofs.Below.{every-all}
 use Rattle.policy.proofs.in_range.Goals as goal
+use Rattle.policy.proofs.in_range.Goals.{Start}
 
-well-shaped : (c : goal.Start) → shaped c.args.p ≡ true
+well-shaped : (c : Start) → shaped c.args.p ≡ true
 unfolding shaped
 well-shaped c =
     let p = c.args.p in
@@ -37,5 +38,5 @@ well-shaped c =
 pub returns : goal.returns
 unfolding in_range within
 returns c =
-    rw (well-shaped c)
+    rw (well-shaped (goal.at.returns c).Start)
     (ap₂ (λ (k : ℕ) (b : Bool). within 1 c.args.p.classes 16 && eqb k 0 && b) c.refusal.ensures c.all_stored_fits.ensures)

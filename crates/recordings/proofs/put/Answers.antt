@@ -28,5 +28,4 @@ bounds-out-at-2 c =
 
 pub returns : goal.returns
 returns c =
-    let a = c.args in
-    rw (an-event a.t a.word c.if-word-eq0.false) (refl, ap (λ (i : ℕ). set (set a.out.now a.at a.t) i a.word) (add-one a.at))
+    let a = c.args in record { value = rw (an-event a.t a.word c.if-word-eq0.false); out_after = rw (an-event a.t a.word c.if-word-eq0.false) (ap (λ (i : ℕ). set (set a.out.now a.at a.t) i a.word) (add-one a.at)) }

@@ -10,6 +10,7 @@ use Rattle.recordings.specs.Logged.{recording_of}
 use Rattle.recordings.proofs.Logged.{size-two, size_same}
 use borrow.Author.Rules.{rules}
 use Rattle.recordings.proofs.size.Goals as goal
+use Rattle.recordings.proofs.size.Goals.{then-word_shown-ne0, else-word_shown-ne0}
 
 pub loop-i-init : goal.loop-i-init
 unfolding recording_of
@@ -30,18 +31,15 @@ pub loop-i-preserved : goal.loop-i-preserved
 loop-i-preserved c =
     let a = c.args in
     let i = c.loop-i.i in
-    ⊎_elim
-    (λ w. (
-      w.1 ∙ omega (arith, c.loop-i.invariant.0, size-two a.activates a.trace.now a.log.now 0 i (omega arith) (λ e. w.0.taken (c.word_shown.ensures ∙ e))),
-      omega (arith, w.1),
+    elim c.if-word_shown-ne0.branch [ then-word_shown-ne0 w ↦  (
+      w.n-is ∙ omega (arith, c.loop-i.invariant.0, size-two a.activates a.trace.now a.log.now 0 i (omega arith) (λ e. w.if-word_shown-ne0.true (c.word_shown.ensures ∙ e))),
+      omega (arith, w.n-is),
       omega arith,
-    ))
-    (λ w. (
-      w.1 ∙ c.loop-i.invariant.0 ∙ sym (size_same a.activates a.trace.now a.log.now 0 i (omega arith) (sym c.word_shown.ensures ∙ w.0.left)),
-      omega (arith, w.1),
+    ) | else-word_shown-ne0 w ↦  (
+      w.n-is ∙ c.loop-i.invariant.0 ∙ sym (size_same a.activates a.trace.now a.log.now 0 i (omega arith) (sym c.word_shown.ensures ∙ w.if-word_shown-ne0.false)),
+      omega (arith, w.n-is),
       omega arith,
-    ))
-    c.if-word_shown-ne0.branch
+    ) ]
 
 pub returns : goal.returns
 returns c =

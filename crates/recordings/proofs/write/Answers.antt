@@ -9,9 +9,10 @@ use Rattle.recordings.specs.Logged.{word_shown, event_at, ticks_in, recording_of
 use Rattle.recordings.proofs.Logged.{ticks-more, ticks-part, event_of, event-fits, event-more}
 use borrow.Author.Rules.{rules}
 use Rattle.recordings.proofs.write.Goals as goal
+use Rattle.recordings.proofs.write.Goals.{At-loop-i}
 
 -- the event that is put is that of the trace number
-event-is : (c : goal.At-loop-i) {w : ℕ}
+event-is : (c : At-loop-i) {w : ℕ}
     → let a = c.args in
     w ≡ word_shown a.activates (get_or a.trace.now c.loop-i.i 0) a.log.now (4 * c.loop-i.i)
     → event_at c.loop-i.t w ≡ event_of a.activates a.trace.now a.log.now a.start c.loop-i.i
@@ -27,7 +28,7 @@ overflow_mul-i c = omega arith
 pub put-at-requires : goal.put-at-requires
 put-at-requires c =
     let a = c.args in
-    omega (arith, ap length (event-is c c.word_shown-shown.ensures), event-fits a.activates a.trace.now a.log.now a.start c.loop-i.i (length a.out.now) (omega arith) c.pre.1)
+    omega (arith, ap length (event-is (goal.at.put-at-requires c).At-loop-i c.word_shown-shown.ensures), event-fits a.activates a.trace.now a.log.now a.start c.loop-i.i (length a.out.now) (omega arith) c.requires.log_in_bounds)
 
 pub overflow_mul-i-in-loop-i : goal.overflow_mul-i-in-loop-i
 overflow_mul-i-in-loop-i c = omega arith
@@ -35,18 +36,18 @@ overflow_mul-i-in-loop-i c = omega arith
 pub overflow_add-t : goal.overflow_add-t
 overflow_add-t c =
     let a = c.args in
-    omega (arith, c.tick_in-t.ensures, c.loop-i.invariant.3, ticks-more a.trace.now a.log.now c.loop-i.i (omega arith), ticks-part a.trace.now a.log.now (c.loop-i.i + 1), c.pre.0.1)
+    omega (arith, c.tick_in-t.ensures, c.loop-i.invariant.3, ticks-more a.trace.now a.log.now c.loop-i.i (omega arith), ticks-part a.trace.now a.log.now (c.loop-i.i + 1), c.requires.log_len.1)
 
 pub loop-i-preserved : goal.loop-i-preserved
 loop-i-preserved c =
     let a = c.args in
     let more =
-    event-more a.activates a.trace.now a.log.now a.out.now a.start c.loop-i.i (omega arith) c.pre.1 c.loop-i.invariant.0 c.loop-i.invariant.1
-    (c.put-at.ensures.value ∙ ap (λ (l : List ℕ). c.loop-i.at + length l) (event-is c c.word_shown-shown.ensures)) (c.put-at.ensures.out_after ∙ ap (sets c.loop-i.out c.loop-i.at) (event-is c c.word_shown-shown.ensures))
+    event-more a.activates a.trace.now a.log.now a.out.now a.start c.loop-i.i (omega arith) c.requires.log_in_bounds c.loop-i.invariant.0 c.loop-i.invariant.1
+    (c.put-at.ensures.value ∙ ap (λ (l : List ℕ). c.loop-i.at + length l) (event-is (goal.at.loop-i-preserved c).At-loop-i c.word_shown-shown.ensures)) (c.put-at.ensures.out_after ∙ ap (sets c.loop-i.out c.loop-i.at) (event-is (goal.at.loop-i-preserved c).At-loop-i c.word_shown-shown.ensures))
     in (
       more.0,
       more.1,
-      c.put-at.auto.1.1.0 ∙ c.loop-i.invariant.2,
+      c.put-at.auto.out ∙ c.loop-i.invariant.2,
       omega (arith, c.tick_in-t.ensures, c.loop-i.invariant.3, ticks-more a.trace.now a.log.now c.loop-i.i (omega arith)),
       omega arith,
     )

@@ -22,13 +22,14 @@ use Rattle.rules.proofs.Call.{offer-is, tick_is, tick-late, called-tick, called-
 use Rattle.wires.proofs.InPlace.{queued-by}
 use Rattle.scheduler.proofs.InPlace.{with-numbers, nothing_known}
 use Rattle.scheduler.proofs.call_at.Goals as goal
+use Rattle.scheduler.proofs.call_at.Goals.{After-call_of-call, Start}
 
 -- ---- the state before, and the definition's answer
-abbrev given : goal.Start → State
-given c = state_of c.args.m c.args.slots.now c.args.heads.now c.args.lengths.now c.args.passed.now c.args.left.now c.args.pointers.now c.args.columns.now c.args.responses.now c.args.banks.now
+abbrev given : Start → State
+given s = state_of s.args.m s.args.slots.now s.args.heads.now s.args.lengths.now s.args.passed.now s.args.left.now s.args.pointers.now s.args.columns.now s.args.responses.now s.args.banks.now
 
-abbrev right : goal.Start → Answer
-right c = answer_to c.args.p (given c) c.args.word
+abbrev right : Start → Answer
+right s = answer_to s.args.p (given s) s.args.word
 
 -- the state with other queues
 abbrev queued : State → Queues → State
@@ -39,17 +40,17 @@ abbrev left-by : State → Called → Answer
 left-by s r = answer_of r (with-numbers s r.moment)
 
 -- a call that shows nothing leaves the numbers, but perhaps for `until`
-stays_by : (c : goal.Start) (r : Called) (until : ℕ) {k : ℕ} → r ≡ answered_with (with_until c.args.m until) k → Continues c.args.p c.args.m r.moment
-stays_by c r until e =
-    subst (λ (x : Called). Continues c.args.p c.args.m x.moment) (sym e) (record { in_step = c.requires.in_step; same_bottom = refl; same_free = refl; same_count = refl })
+stays_by : (s : Start) (r : Called) (until : ℕ) {k : ℕ} → r ≡ answered_with (with_until s.args.m until) k → Continues s.args.p s.args.m r.moment
+stays_by s r until e =
+    subst (λ (x : Called). Continues s.args.p s.args.m x.moment) (sym e) (record { in_step = s.requires.in_step; same_bottom = refl; same_free = refl; same_count = refl })
 
 -- where the state stays too, so does that
-none-by : (c : goal.Start) (r : Called) {k : ℕ} → r ≡ answered_with c.args.m k → given c ≡ (right c).state → NoneYet c.args.p (right c).state r.moment
-none-by c r e same =
-    subst (λ (x : Called). NoneYet c.args.p (right c).state x.moment) (sym e) (subst (λ (u : State). NoneYet c.args.p u c.args.m) same c.requires.none_until)
+none-by : (s : Start) (r : Called) {k : ℕ} → r ≡ answered_with s.args.m k → given s ≡ (right s).state → NoneYet s.args.p (right s).state r.moment
+none-by s r e same =
+    subst (λ (x : Called). NoneYet s.args.p (right s).state x.moment) (sym e) (subst (λ (u : State). NoneYet s.args.p u s.args.m) same s.requires.none_until)
 
 -- the word, told apart, is the call
-told : (c : goal.After-call_of-call) (call : Call) → c.call_of-call.result ≡ call → call_of c.args.word ≡ call
+told : (c : After-call_of-call) (call : Call) → c.call_of-call.result ≡ call → call_of c.args.word ≡ call
 told c call e = sym c.call_of-call.ensures ∙ e
 
 -- no tick is left
@@ -57,20 +58,19 @@ pub returns-then-m-ge-LAST_CYCLE : goal.returns-then-m-ge-LAST_CYCLE
 unfolding silent command_number
 returns-then-m-ge-LAST_CYCLE c =
     let refused =
-    sym (ap ticked (tick-late c.args.p (given c) c.pre.ranges (le-ltb c.args.m.cycle last_cycle c.if-m-ge-LAST_CYCLE.true)))
-    ∙ sym (called-tick c.args.p (given c) c.args.word (told c _ c.in-Tick.is))
-    in record { answered = ap (left-by (given c)) c.answered.ensures ∙ refused; next = stays_by c c.answered.result c.args.m.until c.answered.ensures; until = none-by c c.answered.result c.answered.ensures (ap (λ (a : Answer). a.state) refused) }
+    sym (ap ticked (tick-late c.args.p (given (goal.at.returns-then-m-ge-LAST_CYCLE c).Start) c.requires.ranges (le-ltb c.args.m.cycle last_cycle c.if-m-ge-LAST_CYCLE.true)))
+    ∙ sym (called-tick c.args.p (given (goal.at.returns-then-m-ge-LAST_CYCLE c).Start) c.args.word (told (goal.at.returns-then-m-ge-LAST_CYCLE c).After-call_of-call _ c.in-Tick.is))
+    in record { answered = ap (left-by (given (goal.at.returns-then-m-ge-LAST_CYCLE c).Start)) c.answered.ensures ∙ refused; next = stays_by (goal.at.returns-then-m-ge-LAST_CYCLE c).Start c.answered.result c.args.m.until c.answered.ensures; until = none-by (goal.at.returns-then-m-ge-LAST_CYCLE c).Start c.answered.result c.answered.ensures (ap (λ (a : Answer). a.state) refused) }
 
 pub tick_in_place-requires : goal.tick_in_place-requires
-tick_in_place-requires c =
-    (c.requires, c.if-m-ge-LAST_CYCLE.false)
+tick_in_place-requires c = record { banks_value = c.requires; working = c.if-m-ge-LAST_CYCLE.false }
 
 -- what the tick in place left is the tick
 pub returns-else-m-ge-LAST_CYCLE : goal.returns-else-m-ge-LAST_CYCLE
 returns-else-m-ge-LAST_CYCLE c =
     let did =
-    sym (ap ticked (tick_is c.args.p (given c) c.pre.ranges (lt-ltb c.args.m.cycle last_cycle c.if-m-ge-LAST_CYCLE.false)))
-    ∙ sym (called-tick c.args.p (given c) c.args.word (told c _ c.in-Tick.is))
+    sym (ap ticked (tick_is c.args.p (given (goal.at.returns-else-m-ge-LAST_CYCLE c).Start) c.requires.ranges (lt-ltb c.args.m.cycle last_cycle c.if-m-ge-LAST_CYCLE.false)))
+    ∙ sym (called-tick c.args.p (given (goal.at.returns-else-m-ge-LAST_CYCLE c).Start) c.args.word (told (goal.at.returns-else-m-ge-LAST_CYCLE c).After-call_of-call _ c.in-Tick.is))
     in record { answered = c.tick_in_place.ensures.ticked ∙ did; next = c.tick_in_place.ensures.next; until = subst (λ (a : Answer). NoneYet c.args.p a.state c.tick_in_place.result.moment) did c.tick_in_place.ensures.until }
 
 -- what the offer in place left is the offer
@@ -78,12 +78,12 @@ pub returns-in-Offer : goal.returns-in-Offer
 unfolding offer_on
 returns-in-Offer c =
     let did = c.offer-status.ensures in
-    let status = did.0 (small-classes c.args.p (given c) (ranged c.args.p (given c) c.pre.ranges)) in
+    let status = did.0 (small-classes c.args.p (given (goal.at.returns-in-Offer c).Start) (ranged c.args.p (given (goal.at.returns-in-Offer c).Start) c.requires.ranges)) in
     let answers = c.answered-in-Offer.ensures ∙ ap (λ (m : Moment). answered_with m c.offer-status.result) c.nothing_known.ensures in
-    let queues = did.1 c.args.passed.now ∙ queued-by c.args.m.classes c.args.p.timing.ranks (given c).queues _ _ _ status (offer-word c.args.word _ (told c _ c.in-Offer.is)) in record { answered = ap (left-by (queued (given c) (queues_of c.offer-status.new.slots c.args.heads.now c.offer-status.new.lengths c.args.passed.now))) answers
-          ∙ ap₂ (λ (k : ℕ) (q : Queues). record { state = queued (given c) q; status = k; command = 0; response = 0; turn = 0 }) status queues
-          ∙ sym (called-offer c.args.p (given c) c.args.word _ (told c _ c.in-Offer.is) ∙ ap offered (offer-is c.args.p (given c) c.pre.ranges _)); next = stays_by c c.answered-in-Offer.result 0 answers; until = nothing_known (bus_at c.args.p (right c).state (right c).state.turns) c.answered-in-Offer.result.moment.until (ap (λ (x : Called). x.moment.until) answers) }
+    let queues = did.1 c.args.passed.now ∙ queued-by c.args.m.classes c.args.p.timing.ranks (given (goal.at.returns-in-Offer c).Start).queues _ _ _ status (offer-word c.args.word _ (told (goal.at.returns-in-Offer c).After-call_of-call _ c.in-Offer.is)) in record { answered = ap (left-by (queued (given (goal.at.returns-in-Offer c).Start) (queues_of c.offer-status.new.slots c.args.heads.now c.offer-status.new.lengths c.args.passed.now))) answers
+          ∙ ap₂ (λ (k : ℕ) (q : Queues). record { state = queued (given (goal.at.returns-in-Offer c).Start) q; status = k; command = 0; response = 0; turn = 0 }) status queues
+          ∙ sym (called-offer c.args.p (given (goal.at.returns-in-Offer c).Start) c.args.word _ (told (goal.at.returns-in-Offer c).After-call_of-call _ c.in-Offer.is) ∙ ap offered (offer-is c.args.p (given (goal.at.returns-in-Offer c).Start) c.requires.ranges _)); next = stays_by (goal.at.returns-in-Offer c).Start c.answered-in-Offer.result 0 answers; until = nothing_known (bus_at c.args.p (right (goal.at.returns-in-Offer c).Start).state (right (goal.at.returns-in-Offer c).Start).state.turns) c.answered-in-Offer.result.moment.until (ap (λ (x : Called). x.moment.until) answers) }
 
 pub returns-in-Malformed : goal.returns-in-Malformed
 returns-in-Malformed c =
-    let refused = sym (called-malformed c.args.p (given c) c.args.word (told c _ c.in-Malformed.is)) in record { answered = ap (left-by (given c)) c.answered-in-Malformed.ensures ∙ refused; next = stays_by c c.answered-in-Malformed.result c.args.m.until c.answered-in-Malformed.ensures; until = none-by c c.answered-in-Malformed.result c.answered-in-Malformed.ensures (ap (λ (a : Answer). a.state) refused) }
+    let refused = sym (called-malformed c.args.p (given (goal.at.returns-in-Malformed c).Start) c.args.word (told (goal.at.returns-in-Malformed c).After-call_of-call _ c.in-Malformed.is)) in record { answered = ap (left-by (given (goal.at.returns-in-Malformed c).Start)) c.answered-in-Malformed.ensures ∙ refused; next = stays_by (goal.at.returns-in-Malformed c).Start c.answered-in-Malformed.result c.args.m.until c.answered-in-Malformed.ensures; until = none-by (goal.at.returns-in-Malformed c).Start c.answered-in-Malformed.result c.answered-in-Malformed.ensures (ap (λ (a : Answer). a.state) refused) }

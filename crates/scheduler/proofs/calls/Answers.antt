@@ -16,6 +16,7 @@ use Rattle.state.specs.declared.State.{State}
 use Rattle.rules.proofs.Calls.{written, answered-in-range, state-more, log-more}
 use Rattle.scheduler.proofs.calls.Invariants.{numbers}
 use Rattle.scheduler.proofs.calls.Goals as goal
+use Rattle.scheduler.proofs.calls.Goals.{At-loop-i, Start}
 
 -- a log with an answer's numbers is as long as before
 written-long : (log : List ℕ) (at : ℕ) (a : Answer) → length (written log at a) ≡ length log
@@ -26,18 +27,18 @@ written-long log at a =
     ∙ length-set log at a.status
 
 -- the slices' lengths are numbers of the machine
-trace-fits : (c : goal.Start) → length c.args.trace.now ≤ 18446744073709551615
-trace-fits c = omega (arith, c.well_formed.1.1.1.1.1.1.1.1.1.1.1.1.1.1.0.0)
+trace-fits : (s : Start) → length s.args.trace.now ≤ 18446744073709551615
+trace-fits s = omega (arith, s.well_formed.1.1.1.1.1.1.1.1.1.1.1.1.1.1.0.0)
 
-log-fits : (c : goal.Start) → length c.args.log.now ≤ 18446744073709551615
-log-fits c = omega (arith, c.well_formed.1.1.1.1.1.1.1.1.1.1.1.1.1.1.1.0.0)
+log-fits : (s : Start) → length s.args.log.now ≤ 18446744073709551615
+log-fits s = omega (arith, s.well_formed.1.1.1.1.1.1.1.1.1.1.1.1.1.1.1.0.0)
 
 -- ---- the state
 -- the state at the start, and the present one
-abbrev first : goal.Start → State
-first c = state_of c.args.start c.args.slots.now c.args.heads.now c.args.lengths.now c.args.passed.now c.args.left.now c.args.pointers.now c.args.columns.now c.args.responses.now c.args.banks.now
+abbrev first : Start → State
+first s = state_of s.args.start s.args.slots.now s.args.heads.now s.args.lengths.now s.args.passed.now s.args.left.now s.args.pointers.now s.args.columns.now s.args.responses.now s.args.banks.now
 
-abbrev present : goal.At-loop-i → State
+abbrev present : At-loop-i → State
 present c = state_of (numbers c.loop-i.cycle c.loop-i.offset c.args.start.bottom c.args.start.free c.args.start.classes c.loop-i.owner c.loop-i.elided c.loop-i.new c.loop-i.until) c.loop-i.slots c.loop-i.heads c.loop-i.lengths c.loop-i.passed c.loop-i.false c.loop-i.pointers c.loop-i.columns c.loop-i.responses c.loop-i.banks
 
 pub loop-i-init : goal.loop-i-init
@@ -46,7 +47,7 @@ loop-i-init c =
     record { so_far = zero-le; room = c.requires.working; state = refl; long = refl; logged = refl; working = c.requires.banks_value }
 
 pub offset_bounds-trace-i : goal.offset_bounds-trace-i
-offset_bounds-trace-i c = omega (arith, c.loop-i-test.true, c.loop-i.invariant.room, log-fits c)
+offset_bounds-trace-i c = omega (arith, c.loop-i-test.true, c.loop-i.invariant.room, log-fits (goal.at.offset_bounds-trace-i c).Start)
 
 pub call_at-called-requires : goal.call_at-called-requires
 call_at-called-requires c =
@@ -55,7 +56,7 @@ call_at-called-requires c =
 
 pub overflow_mul-i : goal.overflow_mul-i
 overflow_mul-i c =
-    omega (arith, c.loop-i-test.true, c.loop-i.invariant.room, log-fits c)
+    omega (arith, c.loop-i-test.true, c.loop-i.invariant.room, log-fits (goal.at.overflow_mul-i c).Start)
 
 pub write-requires : goal.write-requires
 write-requires c =
@@ -63,7 +64,7 @@ write-requires c =
     omega (arith, c.loop-i-test.true, inv.room, inv.long)
 
 pub overflow_add-i : goal.overflow_add-i
-overflow_add-i c = omega (arith, c.loop-i-test.true, trace-fits c)
+overflow_add-i c = omega (arith, c.loop-i-test.true, trace-fits (goal.at.overflow_add-i c).Start)
 
 pub loop-i-smaller : goal.loop-i-smaller
 loop-i-smaller c = omega (arith, c.loop-i-test.true)
@@ -81,20 +82,20 @@ loop-i-preserved c =
     let r = c.call_at-called.result in
     let m = r.moment in
     let left : ℕ → State = λ n. state_of (numbers m.cycle m.offset c.args.start.bottom c.args.start.free n m.owner m.elided m.last m.until) c.call_at-called.new.slots c.call_at-called.new.heads c.call_at-called.new.lengths c.call_at-called.new.passed c.call_at-called.new.left c.call_at-called.new.pointers c.call_at-called.new.columns c.call_at-called.new.responses c.call_at-called.new.banks in
-    let state : left c.args.start.classes ≡ (answer_to p (present c) word).state = ap left (sym next.same_count) ∙ ap (λ (a : Answer). a.state) did.0 in
+    let state : left c.args.start.classes ≡ (answer_to p (present (goal.at.loop-i-preserved c).At-loop-i) word).state = ap left (sym next.same_count) ∙ ap (λ (a : Answer). a.state) did.0 in
     let line = c.write.ensures ∙ ap (written c.loop-i.log (4 * i)) did.0 in
     record {
       so_far = omega (arith, more);
       room = inv.room;
-      long = ap length line ∙ written-long c.loop-i.log (4 * i) (answer_to p (present c) word) ∙ inv.long;
-      state = state ∙ ap (λ (c : State). (answer_to p c word).state) inv.state ∙ sym (state-more p (first c) trace i more);
+      long = ap length line ∙ written-long c.loop-i.log (4 * i) (answer_to p (present (goal.at.loop-i-preserved c).At-loop-i) word) ∙ inv.long;
+      state = state ∙ ap (λ (c.before.before.before.before.before.before.before.before.before.before.before.before.before.before.before.before.before.before.before.before : State). (answer_to p c.before.before.before.before.before.before.before.before.before.before.before.before.before.before.before.before.before.before.before.before word).state) inv.state ∙ sym (state-more p (first (goal.at.loop-i-preserved c).Start) trace i more);
       logged =
           line
-          ∙ ap (λ (c : State). written c.loop-i.log (4 * i) (answer_to p c word)) inv.state
-          ∙ log-more p (first c) trace i more c.args.log.now c.loop-i.log (omega (arith, more, inv.room)) inv.logged;
+          ∙ ap (λ (c.before.before.before.before.before.before.before.before.before.before.before.before.before.before.before.before.before.before.before.before : State). written c.loop-i.log (4 * i) (answer_to p c.before.before.before.before.before.before.before.before.before.before.before.before.before.before.before.before.before.before.before.before word)) inv.state
+          ∙ log-more p (first (goal.at.loop-i-preserved c).Start) trace i more c.args.log.now c.loop-i.log (omega (arith, more, inv.room)) inv.logged;
       working =
           record {
-            ranges = subst (λ (c : State). in_range p c ≡ true) (sym state) (answered-in-range p (present c) word inv.working.ranges);
+            ranges = subst (λ (c.before.before.before.before.before.before.before.before.before.before.before.before.before.before.before.before.before.before.before.before : State). in_range p c.before.before.before.before.before.before.before.before.before.before.before.before.before.before.before.before.before.before.before.before ≡ true) (sym state) (answered-in-range p (present (goal.at.loop-i-preserved c).At-loop-i) word inv.working.ranges);
             in_step = next.in_step;
             none_until = subst (λ (u : State). NoneYet p u m) (sym state) did.1.1;
             lent = inv.working.lent;
@@ -110,4 +111,4 @@ returns c =
     let trace = c.args.trace.now in
     let inv = c.loop-i.invariant in
     let end : c.loop-i.i ≡ length trace = omega (arith, c.loop-i-test.false, inv.so_far) in
-    let all : take c.loop-i.i trace ≡ trace = ap (λ (k : ℕ). take k trace) end ∙ take_all (length trace) trace (omega arith) in record { state = inv.state ∙ ap (state_after p (first c)) all; logged = inv.logged ∙ ap (λ (xs : List ℕ). log_of p (first c) xs ++ drop (4 * c.loop-i.i) c.args.log.now) all ∙ ap (λ (k : ℕ). log_of p (first c) trace ++ drop (4 * k) c.args.log.now) end }
+    let all : take c.loop-i.i trace ≡ trace = ap (λ (k : ℕ). take k trace) end ∙ take_all (length trace) trace (omega arith) in record { state = inv.state ∙ ap (state_after p (first (goal.at.returns c).Start)) all; logged = inv.logged ∙ ap (λ (xs : List ℕ). log_of p (first (goal.at.returns c).Start) xs ++ drop (4 * c.loop-i.i) c.args.log.now) all ∙ ap (λ (k : ℕ). log_of p (first (goal.at.returns c).Start) trace ++ drop (4 * k) c.args.log.now) end }

@@ -11,29 +11,30 @@ use Rattle.state.specs.Range.{in_range}
 use Rattle.rules.specs.Run.{has_room}
 use Rattle.rules.proofs.Run.{ran, by-range, by-room, by-calls}
 use Rattle.scheduler.proofs.run.Goals as goal
+use Rattle.scheduler.proofs.run.Goals.{Else-not-in_range}
 
 -- 13 does not refuse it
-taken : (c : goal.Else-not-in_range) → in_range c.args.p c.args.s ≡ true
-taken c = sym c.in_range.ensures ∙ not-not _ c.if-not-in_range.false
+taken : (c : Else-not-in_range) → in_range c.args.p c.args.s ≡ true
+taken c = sym c.in_range.ensures ∙ c.if-not-in_range.false
 
 pub returns-then-not-in_range : goal.returns-then-not-in_range
 returns-then-not-in_range c =
     let a = c.args in
-    let side = by-range a.p a.s a.trace.now a.log.now (sym c.in_range.ensures ∙ not-true _ c.if-not-in_range.true) in record { value = sym side.0; log_after = sym side.1 }
+    let side = by-range a.p a.s a.trace.now a.log.now (sym c.in_range.ensures ∙ c.if-not-in_range.true) in record { value = sym side.0; log_after = sym side.1 }
 
 pub returns-then-log-trace : goal.returns-then-log-trace
 unfolding has_room
 returns-then-log-trace c =
     let a = c.args in
     let short : has_room a.trace.now a.log.now ≡ false = lt-leb (4 * length a.trace.now) (length a.log.now) (omega (arith, c.if-log-trace.true)) in
-    let side = by-room a.p a.s a.trace.now a.log.now (taken c) short in record { value = sym side.0; log_after = sym side.1 }
+    let side = by-room a.p a.s a.trace.now a.log.now (taken (goal.at.returns-then-log-trace c).Else-not-in_range) short in record { value = sym side.0; log_after = sym side.1 }
 
 pub advance-state-requires : goal.advance-state-requires
-advance-state-requires c = (taken c, omega (arith, c.if-log-trace.false))
+advance-state-requires c = (taken (goal.at.advance-state-requires c).Else-not-in_range, omega (arith, c.if-log-trace.false))
 
 pub returns : goal.returns
 unfolding has_room
 returns c =
     let a = c.args in
     let room : has_room a.trace.now a.log.now ≡ true = le-leb (4 * length a.trace.now) (length a.log.now) (omega (arith, c.if-log-trace.false)) in
-    let side = by-calls a.p a.s a.trace.now a.log.now (taken c) room in record { value = ap (ran 0) c.advance-state.ensures.state ∙ sym side.0; log_after = c.advance-state.ensures.logged ∙ sym side.1 }
+    let side = by-calls a.p a.s a.trace.now a.log.now (taken (goal.at.returns c).Else-not-in_range) room in record { value = ap (ran 0) c.advance-state.ensures.state ∙ sym side.0; log_after = c.advance-state.ensures.logged ∙ sym side.1 }

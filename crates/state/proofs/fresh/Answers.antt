@@ -18,10 +18,10 @@ pub returns-then-not-in_range : goal.returns-then-not-in_range
 unfolding fresh zero_state zeros
 returns-then-not-in_range c =
     ap refused c.state_at_start-state.ensures
-    ∙ sym (on-false (in_range c.args.p) (made (fresh_state c.args.p)) (refused zero_state) (sym c.in_range.ensures ∙ not-true _ c.if-not-in_range.true))
+    ∙ sym (on-false (in_range c.args.p) (made (fresh_state c.args.p)) (refused zero_state) (sym c.in_range.ensures ∙ c.if-not-in_range.true))
 
 pub returns : goal.returns
 unfolding fresh fresh_state
 returns c =
     ap made c.state_at_start-state-2.ensures
-    ∙ sym (on-true (in_range c.args.p) (made (fresh_state c.args.p)) (refused zero_state) (sym c.in_range.ensures ∙ not-not _ c.if-not-in_range.false))
+    ∙ sym (on-true (in_range c.args.p) (made (fresh_state c.args.p)) (refused zero_state) (sym c.in_range.ensures ∙ c.if-not-in_range.false))

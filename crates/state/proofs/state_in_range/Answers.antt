@@ -8,9 +8,10 @@ use Rattle.policy.specs.Policy.{covers_of, cover_count, cap}
 use Rattle.basics.proofs.Truth.{and_both, not-true, not-not}
 use Rattle.state.specs.Range.{shaped, turns_in_range, state_in_range}
 use Rattle.state.proofs.state_in_range.Goals as goal
+use Rattle.state.proofs.state_in_range.Goals.{Start}
 
 -- (The state has too many fields for a search to enter them all: it is handed what is known of the turns, and of what is in flight.)
-well-shaped : (c : goal.Start) → shaped c.args.s ≡ true
+well-shaped : (c : Start) → shaped c.args.s ≡ true
 unfolding shaped
 well-shaped c =
     let s = c.args.s in
@@ -34,9 +35,9 @@ well-shaped c =
 pub returns-then-not-counts_in_range : goal.returns-then-not-counts_in_range
 unfolding state_in_range
 returns-then-not-counts_in_range c =
-    rw (well-shaped c, sym c.counts_in_range.ensures ∙ not-true _ c.if-not-counts_in_range.true)
+    rw (well-shaped (goal.at.returns-then-not-counts_in_range c).Start, sym c.counts_in_range.ensures ∙ c.if-not-counts_in_range.true)
 
 pub returns : goal.returns
 unfolding state_in_range turns_in_range cover_count covers_of cap
 returns c =
-    rw (well-shaped c, sym c.counts_in_range.ensures ∙ not-not _ c.if-not-counts_in_range.false, c.flight_in_range.ensures, c.turns_in_range.ensures, c.queues_in_range.ensures)
+    rw (well-shaped (goal.at.returns c).Start, sym c.counts_in_range.ensures ∙ c.if-not-counts_in_range.false, c.flight_in_range.ensures, c.turns_in_range.ensures, c.queues_in_range.ensures)

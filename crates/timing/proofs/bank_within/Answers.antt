@@ -5,4 +5,4 @@ use Rattle.timing.proofs.bank_within.Goals as goal
 
 pub returns : goal.returns
 unfolding bank_within
-returns c = rw (c.is_within-2.ensures, c.is_Within.ensures)
+returns c = rw (c.is_within-2.ensures, c.is_within.ensures)

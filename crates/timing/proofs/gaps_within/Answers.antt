@@ -6,4 +6,4 @@ use Rattle.timing.proofs.gaps_within.Goals as goal
 pub returns : goal.returns
 unfolding gaps_within
 returns c =
-    rw (c.is_within-4.ensures, c.is_within-3.ensures, c.is_within-2.ensures, c.is_Within.ensures)
+    rw (c.is_within-4.ensures, c.is_within-3.ensures, c.is_within-2.ensures, c.is_within.ensures)

@@ -11,22 +11,22 @@ use Rattle.turns.proofs.Homes.{past, below_none, below_more}
 use Rattle.turns.proofs.home_at.Goals as goal
 
 pub loop-class-init : goal.loop-class-init
-loop-class-init c = (missed-none _ 16, omega (arith, below_none c.args.t1))
+loop-class-init c = (missed-none _ 16, omega (arith, below_none c.args.minimums))
 
 pub returns-then-rest-minimums : goal.returns-then-rest-minimums
 unfolding home_at
 returns-then-rest-minimums c =
     let args = c.args in
     let class = c.loop-class.class in
-    let here = lt-ltb args.place (minimums_below args.t1 (class + 1)) (omega (arith, below_more args.t1 class, c.if-rest-minimums.true)) in
+    let here = lt-ltb args.place (minimums_below args.minimums (class + 1)) (omega (arith, below_more args.minimums class, c.if-rest-minimums.true)) in
     found_at _ 16 class c.loop-class.invariant.0 (search rules) here
 
 pub loop-class-preserved : goal.loop-class-preserved
 loop-class-preserved c =
     let args = c.args in
     let class = c.loop-class.class in
-    let more = below_more args.t1 class in
-    let not-here = le-ltb args.place (minimums_below args.t1 (class + 1)) (omega (arith, c.if-rest-minimums.false)) in
+    let more = below_more args.minimums class in
+    let not-here = le-ltb args.place (minimums_below args.minimums (class + 1)) (omega (arith, c.if-rest-minimums.false)) in
     (missed_more _ 16 class c.loop-class.invariant.0 (search rules) not-here, omega (arith, c.if-rest-minimums.false))
 
 pub returns : goal.returns

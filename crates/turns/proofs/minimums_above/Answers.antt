@@ -14,28 +14,26 @@ use Rattle.turns.specs.Turns.{minimums_above}
 use Rattle.basics.proofs.Loops.{Summed, summed-none, summed-more, summed-all}
 use Rattle.turns.proofs.minimums_above.Invariants.{part}
 use Rattle.turns.proofs.minimums_above.Goals as goal
+use Rattle.turns.proofs.minimums_above.Goals.{then-strictly_in, else-strictly_in}
 
 pub loop-j-init : goal.loop-j-init
 loop-j-init c = (summed-none _ 16, omega arith)
 
 pub overflow_add-total : goal.overflow_add-total
 overflow_add-total c =
-    let fits : Fits w32 (get_or c.args.t2 c.loop-j.j 0) = search rules in
+    let fits : Fits w32 (get_or c.args.minimums c.loop-j.j 0) = search rules in
     omega arith
 
 pub loop-j-preserved : goal.loop-j-preserved
 loop-j-preserved c =
     let j = c.loop-j.j in
-    let f = part c.args.rows c.args.t2 c.args.class in
-    let fits : Fits w32 (get_or c.args.t2 j 0) = search rules in
-    ⊎_elim
-    (λ w.
-    let here : f j ≡ get_or c.args.t2 j 0 = rw (sym c.strictly_in.ensures ∙ w.0.taken) in
-    (summed-more f 16 c.loop-j.total j c.loop-j.invariant.0 c.loop-j-test.true (omega (arith, here)), omega arith))
-    (λ w.
-    let none : f j ≡ 0 = rw (sym c.strictly_in.ensures ∙ w.0.left) in
-    (summed-more f 16 c.loop-j.total j c.loop-j.invariant.0 c.loop-j-test.true (omega (arith, none)), omega arith))
-    c.if-strictly_in.branch
+    let f = part c.args.rows c.args.minimums c.args.class in
+    let fits : Fits w32 (get_or c.args.minimums j 0) = search rules in
+    elim c.if-strictly_in.branch [ then-strictly_in w ↦ 
+    let here : f j ≡ get_or c.args.minimums j 0 = rw (sym c.strictly_in.ensures ∙ w.if-strictly_in.true) in
+    (summed-more f 16 c.loop-j.total j c.loop-j.invariant.0 c.loop-j-test.true (omega (arith, here)), omega arith) | else-strictly_in w ↦ 
+    let none : f j ≡ 0 = rw (sym c.strictly_in.ensures ∙ w.if-strictly_in.false) in
+    (summed-more f 16 c.loop-j.total j c.loop-j.invariant.0 c.loop-j-test.true (omega (arith, none)), omega arith) ]
 
 pub returns : goal.returns
 unfolding minimums_above

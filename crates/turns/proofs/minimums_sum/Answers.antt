@@ -15,12 +15,12 @@ loop-i-init c = (summed-none _ 16, omega arith)
 
 pub overflow_add-total : goal.overflow_add-total
 overflow_add-total c =
-    let fits : Fits w32 (get_or c.args.t1 c.loop-i.i 0) = search rules in
+    let fits : Fits w32 (get_or c.args.minimums c.loop-i.i 0) = search rules in
     omega arith
 
 pub loop-i-preserved : goal.loop-i-preserved
 loop-i-preserved c =
-    let fits : Fits w32 (get_or c.args.t1 c.loop-i.i 0) = search rules in
+    let fits : Fits w32 (get_or c.args.minimums c.loop-i.i 0) = search rules in
     (summed-more _ 16 c.loop-i.total c.loop-i.i c.loop-i.invariant.0 (search rules) refl, omega arith)
 
 pub returns : goal.returns

@@ -18,63 +18,64 @@ use Rattle.queues.specs.declared.Queues.{Queues}
 use Rattle.requests.proofs.Word.{word_back, offer-fits}
 use Rattle.rules.proofs.Step.{drive-column, drive-nothing, drive-activate}
 use Rattle.wires.proofs.drive.Goals as goal
+use Rattle.wires.proofs.drive.Goals.{After-goes_at-found, After-offset_allows, Else-due-ne0, Start}
 
 -- ---- what the function was lent, and what its promise rests on
-abbrev queues-of : goal.Start → Queues
-queues-of c = queues_of c.args.slots.now c.args.heads.now c.args.lengths.now c.args.passed.now
+abbrev queues-of : Start → Queues
+queues-of s = queues_of s.args.slots.now s.args.heads.now s.args.lengths.now s.args.passed.now
 
-abbrev bus-of : goal.Start → Bus
-bus-of c = bus_of c.args.timing c.args.at (queues-of c) (flight_of c.args.columns.now c.args.responses.now c.args.banks.now c.args.at.last)
+abbrev bus-of : Start → Bus
+bus-of s = bus_of s.args.timing s.args.at (queues-of s) (flight_of s.args.columns.now s.args.responses.now s.args.banks.now s.args.at.last)
 
-abbrev Given : goal.Start → Type 0
-Given c = Drivable (bus-of c) c.args.at.offset c.args.at.until
+abbrev Given : Start → Type 0
+Given s = Drivable (bus-of s) s.args.at.offset s.args.at.until
 
 -- ---- what each test says
 -- no column command is due
-none-due : (c : goal.Else-due-ne0) → eqb (due_column (bus-of c)) 0 ≡ true
+none-due : (c : Else-due-ne0) → eqb (due_column (bus-of c.before.before.before)) 0 ≡ true
 unfolding due_at
-none-due c = eq-eqb (due_column (bus-of c)) 0 (omega (arith, c.if-due-ne0.false))
+none-due c = eq-eqb (due_column (bus-of c.before.before.before.before)) 0 (omega (arith, c.if-due-ne0.false))
 
 -- what the offset test says is what the definition says
-allows : (c : goal.After-offset_allows) → Given c → c.offset_allows.result ≡ offset_allows c.args.timing c.args.at.elided c.args.at.cycle
+allows : (c : After-offset_allows) → Given c.before.before.before.before → c.offset_allows.result ≡ offset_allows c.args.timing c.args.at.elided c.args.at.cycle
 allows c g = c.offset_allows.ensures (g.ready.timed, g.in_step)
 
 -- the owner is one of the sixteen
-owner-is : (c : goal.Start) → Given c → c.args.at.owner % 16 ≡ c.args.at.owner
-owner-is c g = omega (arith, g.ready.class)
+owner-is : (s : Start) → Given s → s.args.at.owner % 16 ≡ s.args.at.owner
+owner-is s g = omega (arith, g.ready.class)
 
 -- the queue of what is read as the owner can be looked through
-scannable : (c : goal.After-goes_at-found) → Given c → Scannable c.args.slots.now (c.args.at.owner % 16) (get_or c.args.heads.now (c.args.at.owner % 16) 0) (get_or c.args.lengths.now (c.args.at.owner % 16) 0)
+scannable : (c : After-goes_at-found) → Given c.before.before.before.before.before.before.before.before.before.before.before.before.before → Scannable c.args.slots.now (c.args.at.owner % 16) (get_or c.args.heads.now (c.args.at.owner % 16) 0) (get_or c.args.lengths.now (c.args.at.owner % 16) 0)
 unfolding head_of length_of waiting_at
 scannable c g =
     let a = c.args in
-    subst (λ (o : ℕ). Scannable a.slots.now o (get_or a.heads.now o 0) (get_or a.lengths.now o 0)) (sym (owner-is c g))
+    subst (λ (o : ℕ). Scannable a.slots.now o (get_or a.heads.now o 0) (get_or a.lengths.now o 0)) (sym (owner-is c.before.before.before.before.before.before.before.before.before.before.before.before.before.before.before g))
     (record { short = g.ready.short; kind = λ k waits. (g.ready.sound k waits).kind })
 
 -- so the place found is that of the request that goes
-place_is : (c : goal.After-goes_at-found) → Given c → c.Goes-at.result.place ≡ goes_at (bus-of c)
+place_is : (c : After-goes_at-found) → Given c.before.before.before.before.before.before.before.before.before.before.before.before.before → c.goes_at-found.result.place ≡ goes_at (bus-of c.before.before.before.before.before.before.before.before.before.before.before.before.before)
 unfolding goes_at may_go gaps_met head_of length_of passed_of waiting_at
 place_is c g =
     let a = c.args in
     let found : ℕ → ℕ =
     λ o. first (get_or a.lengths.now o 0) (may_go_by a.timing a.at.cycle a.at.last a.slots.now a.banks.now o (get_or a.heads.now o 0) (get_or a.passed.now o 0))
     in
-    c.Goes-at.ensures.0 (scannable c g) ∙ ap found (owner-is c g)
+    c.goes_at-found.ensures.first (scannable c g) ∙ ap found (owner-is c.before.before.before.before.before.before.before.before.before.before.before.before.before.before.before g)
 
 -- and before the tick found none may go
-none_from : (c : goal.After-goes_at-found) → Given c → NoneUntil (bus-of c) c.Goes-at.result.until
+none_from : (c : After-goes_at-found) → Given c.before.before.before.before.before.before.before.before.before.before.before.before.before → NoneUntil (bus-of c.before.before.before.before.before.before.before.before.before.before.before.before.before) c.goes_at-found.result.until
 unfolding may_go gaps_met head_of length_of passed_of waiting_at
 none_from c g =
     let a = c.args in
     let before : ℕ → Type 0 =
-    λ o. (t : ℕ) → t + 1 < c.Goes-at.result.until → (k : ℕ) → k < get_or a.lengths.now o 0
+    λ o. (t : ℕ) → t + 1 < c.goes_at-found.result.until → (k : ℕ) → k < get_or a.lengths.now o 0
     → may_go_by a.timing t a.at.last a.slots.now a.banks.now o (get_or a.heads.now o 0) (get_or a.passed.now o 0) k ≡ false
     in
-    subst before (owner-is c g) (c.Goes-at.ensures.1.0 (scannable c g))
+    subst before (owner-is c.before.before.before.before.before.before.before.before.before.before.before.before.before.before.before g) (c.goes_at-found.ensures.until (scannable c g))
 
-length-is : (c : goal.Start) → Given c → get_or c.args.lengths.now (c.args.at.owner % 16) 0 ≡ length_of (queues-of c) c.args.at.owner
+length-is : (s : Start) → Given s → get_or s.args.lengths.now (s.args.at.owner % 16) 0 ≡ length_of (queues-of s) s.args.at.owner
 unfolding length_of
-length-is c g = ap (λ (o : ℕ). get_or c.args.lengths.now o 0) (owner-is c g)
+length-is s g = ap (λ (o : ℕ). get_or s.args.lengths.now o 0) (owner-is s g)
 
 -- where none may go by now, none goes
 none-goes : (b : Bus) (until : ℕ) → NoneUntil b until → b.cycle + 1 < until → ltb (goes_at b) (length_of b.queues b.owner) ≡ false
@@ -104,7 +105,7 @@ pub returns-then-due-ne0 : goal.returns-then-due-ne0
 unfolding due_at sent_at column_number command_number
 returns-then-due-ne0 c c =
     let test = c.before in
-    let b = bus-of test.before.before.before in
+    let b = bus-of (goal.at.returns-then-due-ne0 test).Start in
     let offer = c.ready.due_offer test.if1.true in
     let fits : (due_column b + 1073741824) % 4294967296 ≡ due_column b + 1073741824 = omega (arith, offer-fits _ offer) in
     carried b _ (drive-column b (ne_eqb _ 0 test.if1.true)) _ (c.wrapping-add-u32.ensures ∙ fits ∙ sym (ap column_number (word_back (due_column b) offer))) (column-none b _ c.none_until)
@@ -115,17 +116,17 @@ unfolding command_number can_activate
 returns-then-offset_allows-at c c =
     let asked = c.before.before in
     let test = asked.before in
-    let s = test in
-    let b = bus-of s in
+    let s = test.before.before.before in
+    let b = bus-of (goal.at.returns-then-offset_allows-at s).Start in
     let offset = offset_allows s.args.timing s.args.at.elided s.args.at.cycle in
-    let goes = ltb (goes_at b) (length_of (queues-of s) s.args.at.owner) in
+    let goes = ltb (goes_at b) (length_of (queues-of (goal.at.returns-then-offset_allows-at s).Start) s.args.at.owner) in
     let cannot : can_activate b ≡ false =
     ⊎_elim
-    (λ out. and-fails-left offset goes (sym (allows asked c) ∙ not-true _ out))
+    (λ out. and-fails-left offset goes (sym (allows (goal.at.returns-then-offset_allows-at asked).After-offset_allows c) ∙ not-true _ out))
     (λ early. and-fails-right offset goes (none-goes b s.args.at.until c.none_until (ltb-true _ _ early)))
     (or_cases _ _ c.if2.true)
     in
-    carried b _ (drive-nothing b (none-due test) cannot) _ refl c.none_until
+    carried b _ (drive-nothing b (none-due (goal.at.returns-then-offset_allows-at test).Else-due-ne0) cannot) _ refl c.none_until
 
 pub goes_at-found-requires : goal.goes_at-found-requires
 goes_at-found-requires c = omega arith
@@ -135,10 +136,10 @@ pub returns-then-length-k : goal.returns-then-length-k
 unfolding command_number can_activate
 returns-then-length-k c c =
     let at = c.before in
-    let s = at in
-    let b = bus-of s in
-    let none = le-ltb (goes_at b) (length_of (queues-of s) s.args.at.owner) (omega (arith, place_is at c, length-is s c, c.if3.true)) in
-    carried b _ (drive-nothing b (none-due at) (and-fails-right (offset_allows s.args.timing s.args.at.elided s.args.at.cycle) (ltb (goes_at b) (length_of (queues-of s) s.args.at.owner)) none)) _ refl (none_from at c)
+    let s = at.before.before.before.before.before.before.before.before.before.before.before.before.before in
+    let b = bus-of (goal.at.returns-then-length-k s).Start in
+    let none = le-ltb (goes_at b) (length_of (queues-of (goal.at.returns-then-length-k s).Start) s.args.at.owner) (omega (arith, place_is (goal.at.returns-then-length-k at).After-goes_at-found c, length-is (goal.at.returns-then-length-k s).Start c, c.if3.true)) in
+    carried b _ (drive-nothing b (none-due (goal.at.returns-then-length-k at).Else-due-ne0) (and-fails-right (offset_allows s.args.timing s.args.at.elided s.args.at.cycle) (ltb (goes_at b) (length_of (queues-of (goal.at.returns-then-length-k s).Start) s.args.at.owner)) none)) _ refl (none_from (goal.at.returns-then-length-k at).After-goes_at-found c)
 
 pub waiting_at-word-requires : goal.waiting_at-word-requires
 waiting_at-word-requires c = omega arith
@@ -146,7 +147,7 @@ waiting_at-word-requires c = omega arith
 -- a request is found only where one waits, and another than the oldest only where fewer than may have passed that
 pub dequeue-requires : goal.dequeue-requires
 dequeue-requires c =
-    (omega arith, omega (arith, c.if-length-k.false), c.Goes-at.ensures.1.1 c.if-length-k.false)
+    (omega arith, omega (arith, c.if-length-k.false), c.goes_at-found.ensures.passes c.if-length-k.false)
 
 pub returns : goal.returns
 unfolding command_number can_activate going head_of waiting_at
@@ -155,15 +156,15 @@ returns c c =
     let read = c.before.before.before.before.before.before.before.before.before in
     let found = read.before.before in
     let at = found.before in
-    let s = at in
+    let s = at.before.before.before.before.before.before.before.before.before.before.before.before.before in
     let a = s.args in
-    let b = bus-of s in
-    let place = place_is at c in
-    let owner = owner-is s c in
-    let waits : goes_at b < length_of (queues-of s) a.at.owner = omega (arith, place, length-is s c, found.if3.false) in
-    let asked = at in
-    let allowed = sym (allows asked.before.before c) ∙ not-not _ (false-unless _ (λ t. not-both (or_left _ _ t) asked.if2.left)) in
-    let e = drive-activate b (none-due at) (and_both allowed (lt-ltb (goes_at b) (length_of (queues-of s) a.at.owner) waits)) in
+    let b = bus-of (goal.at.returns s).Start in
+    let place = place_is (goal.at.returns at).After-goes_at-found c in
+    let owner = owner-is (goal.at.returns s).Start c in
+    let waits : goes_at b < length_of (queues-of (goal.at.returns s).Start) a.at.owner = omega (arith, place, length-is (goal.at.returns s).Start c, found.if3.false) in
+    let asked = at.before.before.before.before.before.before.before in
+    let allowed = sym (allows (goal.at.returns asked).After-offset_allows c) ∙ not-not _ (false-unless _ (λ t. not-both (or_left _ _ t) asked.if2.left)) in
+    let e = drive-activate b (none-due (goal.at.returns at).Else-due-ne0) (and_both allowed (lt-ltb (goes_at b) (length_of (queues-of (goal.at.returns s).Start) a.at.owner) waits)) in
     let word : read.waiting-at.result ≡ going b =
     read.waiting-at.ensures ∙ ap₂ (λ (o k : ℕ). get_or a.slots.now (place_of o (get_or a.heads.now o 0) k) 0) owner place
     in
@@ -172,7 +173,7 @@ returns c c =
     let right = carried b _ e (record { command = going b; last = 0; until = 0 }) (sym (word_back (going b) offer)) (λ t early. absurd (not-suc-le-zero early)) in
     record {
       command = word ∙ right.command;
-      queues_are = removed ∙ ap₂ (dequeue (queues-of s)) owner place ∙ right.queues_are;
+      queues_are = removed ∙ ap₂ (dequeue (queues-of (goal.at.returns s).Start)) owner place ∙ right.queues_are;
       flight_is = c.activate.ensures (c.ready.ticks_left, request.kind)
           ∙ ap (λ (w : ℕ). activated a.timing a.columns.now a.responses.now a.banks.now w a.at.cycle) word
           ∙ right.flight_is;

@@ -5,35 +5,36 @@ use Rattle.order.specs.Laws.{SmallClasses}
 use Rattle.requests.specs.Word.{class_fits, bank_kind_rank_fit}
 use Rattle.rules.specs.Queue.{offer_status}
 use Rattle.wires.proofs.offer.Goals as goal
+use Rattle.wires.proofs.offer.Goals.{Else-not-bank_kind_rank_fit, Else-not-class_fits}
 
 -- 9 does not refuse it
-fits : (c : goal.Else-not-class_fits) → class_fits c.args.classes c.args.r ≡ true
-fits c = sym c.class_fits.ensures ∙ not-not _ c.if-not-class_fits.false
+fits : (c : Else-not-class_fits) → class_fits c.args.classes c.args.r ≡ true
+fits c = sym c.class_fits.ensures ∙ c.if-not-class_fits.false
 
-small : (c : goal.Else-not-class_fits) → SmallClasses c.args.classes → c.args.r.class < 16
+small : (c : Else-not-class_fits) → SmallClasses c.args.classes → c.args.r.class < 16
 unfolding class_fits
 small c classes = classes c.args.r.class (fits c)
 
 -- 10 does not refuse it
-right : (c : goal.Else-not-bank_kind_rank_fit) → bank_kind_rank_fit c.args.ranks c.args.r ≡ true
-right c = sym c.bank_kind_rank_fit.ensures ∙ not-not _ c.if-not-bank_kind_rank_fit.false
+right : (c : Else-not-bank_kind_rank_fit) → bank_kind_rank_fit c.args.ranks c.args.r ≡ true
+right c = sym c.bank_kind_rank_fit.ensures ∙ c.if-not-bank_kind_rank_fit.false
 
 pub returns-then-not-class_fits : goal.returns-then-not-class_fits
 unfolding offer_status
-returns-then-not-class_fits c = record { status = λ classes. rw (sym c.class_fits.ensures ∙ not-true _ c.if-not-class_fits.true); queues = λ passed. refl }
+returns-then-not-class_fits c = record { status = λ classes. rw (sym c.class_fits.ensures ∙ c.if-not-class_fits.true); queues = λ passed. refl }
 
 -- no such class comes so far, where classes are small
 pub returns-then-class-ge16 : goal.returns-then-class-ge16
-returns-then-class-ge16 c = record { status = λ classes. absurd (omega (arith, small c classes, c.if-class-ge16.true)); queues = λ passed. refl }
+returns-then-class-ge16 c = record { status = λ classes. absurd (omega (arith, small (goal.at.returns-then-class-ge16 c).Else-not-class_fits classes, c.if-class-ge16.true)); queues = λ passed. refl }
 
 pub returns-then-not-bank_kind_rank_fit : goal.returns-then-not-bank_kind_rank_fit
 unfolding offer_status
-returns-then-not-bank_kind_rank_fit c = record { status = λ classes. rw (fits c, sym c.bank_kind_rank_fit.ensures ∙ not-true _ c.if-not-bank_kind_rank_fit.true); queues = λ passed. refl }
+returns-then-not-bank_kind_rank_fit c = record { status = λ classes. rw (fits (goal.at.returns-then-not-bank_kind_rank_fit c).Else-not-class_fits, sym c.bank_kind_rank_fit.ensures ∙ c.if-not-bank_kind_rank_fit.true); queues = λ passed. refl }
 
 pub returns-then-lengths-class-ge-RING_PLACES : goal.returns-then-lengths-class-ge-RING_PLACES
 unfolding offer_status
-returns-then-lengths-class-ge-RING_PLACES c = record { status = λ classes. rw (fits c, right c, le-ltb _ 8 c.if-lengths-class-ge-RING_PLACES.true); queues = λ passed. refl }
+returns-then-lengths-class-ge-RING_PLACES c = record { status = λ classes. rw (fits (goal.at.returns-then-lengths-class-ge-RING_PLACES c).Else-not-class_fits, right (goal.at.returns-then-lengths-class-ge-RING_PLACES c).Else-not-bank_kind_rank_fit, le-ltb _ 8 c.if-lengths-class-ge-RING_PLACES.true); queues = λ passed. refl }
 
 pub returns : goal.returns
 unfolding offer_status
-returns c = record { status = λ classes. rw (fits c, right c, lt-ltb _ 8 c.if-lengths-class-ge-RING_PLACES.false); queues = c.enqueue.ensures }
+returns c = record { status = λ classes. rw (fits (goal.at.returns c).Else-not-class_fits, right (goal.at.returns c).Else-not-bank_kind_rank_fit, lt-ltb _ 8 c.if-lengths-class-ge-RING_PLACES.false); queues = c.enqueue.ensures }

@@ -7,3 +7,7 @@ use Rattle.writer.proofs.file_size.Goals as goal
 
 pub overflow_add-result-2 : goal.overflow_add-result-2
 overflow_add-result-2 c = omega (arith, c.requires, c.timing_size.ensures, (timing-size c.args.p.timing).1)
+
+pub returns : goal.returns
+unfolding file_size
+returns c = search rules

@@ -10,4 +10,4 @@ returns-then-k-eq0 c = simp (eq-eqb _ _ c.if-k-eq0.true)
 
 pub returns : goal.returns
 unfolding order_byte
-returns c = rw (ne_eqb c.args.k 0 c.if-k-eq0.false) (rw (c.half_of_lem.ensures, c.row_of.ensures))
+returns c = rw (ne_eqb c.args.k 0 c.if-k-eq0.false) (rw (c.half_of.ensures, c.row_of.ensures))

@@ -11,4 +11,4 @@ returns-then-k-eq0 c = simp (eq-eqb _ _ c.if-k-eq0.true)
 
 pub returns : goal.returns
 unfolding turns_byte minimum
-returns c = rw (ne_eqb c.args.k 0 c.if-k-eq0.false) (rw c.number_of_lem.ensures)
+returns c = rw (ne_eqb c.args.k 0 c.if-k-eq0.false) (rw c.number_of.ensures)

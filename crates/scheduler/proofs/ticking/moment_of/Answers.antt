@@ -11,7 +11,7 @@ free_turns-free-requires c = (c.requires, c.least_in-bottom.ensures)
 
 pub nonzero_rem-result : goal.nonzero_rem-result
 nonzero_rem-result c =
-    omega (arith, (policy-laws c.args.p c.pre).timed.turn_bounds.0)
+    omega (arith, (policy-laws c.args.p c.requires).timed.turn_bounds.0)
 
 pub returns : goal.returns
 unfolding least

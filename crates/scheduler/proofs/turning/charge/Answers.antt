@@ -6,7 +6,7 @@ use Rattle.scheduler.proofs.turning.charge.Goals as goal
 
 pub returns-then-not-taken : goal.returns-then-not-taken
 unfolding charge
-returns-then-not-taken c = rw (not-true c.args.taken c.if-not-taken.true, c.one_less.ensures)
+returns-then-not-taken c = rw (c.if-not-taken.true, c.one_less.ensures)
 
 pub returns-else-not-taken : goal.returns-else-not-taken
-returns-else-not-taken c = rw (not-not c.args.taken c.if-not-taken.false)
+returns-else-not-taken c = rw c.if-not-taken.false

@@ -22,41 +22,42 @@ use Rattle.rules.proofs.Lookahead.{elides-home, elides-other}
 use Rattle.scheduler.specs.declared.turning.First.{First}
 use Rattle.scheduler.proofs.InPlace.{climbs-lent}
 use Rattle.scheduler.proofs.turning.elides.Goals as goal
+use Rattle.scheduler.proofs.turning.elides.Goals.{After-first_class-next, Else-next, Start, Then-next}
 
-starts-at : (c : goal.After-first_class-next) → c.first_class-next.result.class ≡ first_class c.args.p (c.args.number + 1)
+starts-at : (c : After-first_class-next) → c.first_class-next.result.class ≡ first_class c.args.p (c.args.number + 1)
 starts-at c = ap (λ (f : First). f.class) c.first_class-next.ensures
 
-home : (c : goal.Then-next) → home_turn c.args.p (c.args.number + 1) ≡ true
+home : (c : Then-next) → home_turn c.args.p (c.args.number + 1) ≡ true
 home c = sym (ap (λ (f : First). f.home) c.first_class-next.ensures) ∙ c.if-next.true
 
-other : (c : goal.Else-next) → home_turn c.args.p (c.args.number + 1) ≡ false
+other : (c : Else-next) → home_turn c.args.p (c.args.number + 1) ≡ false
 other c = sym (ap (λ (f : First). f.home) c.first_class-next.ensures) ∙ c.if-next.false
 
 -- ---- the lookahead
 -- on what is lent, from a class on
-abbrev lent-reaches : goal.Start → List ℕ → ℕ → Bool
-lent-reaches c left from = reaches 16 (looking_ahead c.args.rows.now c.args.covers.now left c.args.pointers.now) c.args.owner from
+abbrev lent-reaches : Start → List ℕ → ℕ → Bool
+lent-reaches s left from = reaches 16 (looking_ahead s.args.rows.now s.args.covers.now left s.args.pointers.now) s.args.owner from
 
 -- and on the policy's own, from the least class
-abbrev own-reaches : goal.Start → List ℕ → Bool
-own-reaches c left = reaches 16 (looking_ahead c.args.p.rows c.args.p.covers left c.args.pointers.now) c.args.owner (least c.args.p)
+abbrev own-reaches : Start → List ℕ → Bool
+own-reaches s left = reaches 16 (looking_ahead s.args.p.rows s.args.p.covers left s.args.pointers.now) s.args.owner (least s.args.p)
 
 -- are the same where the next turn is no home turn
-same-reaches : (c : goal.Else-next) (left : List ℕ) → lent-reaches c left c.first_class-next.result.class ≡ own-reaches c left
+same-reaches : (c : Else-next) (left : List ℕ) → lent-reaches c.before.before left c.first_class-next.result.class ≡ own-reaches c.before.before left
 same-reaches c left =
     let lent = c.requires.0 in
     ap₂ (λ (rows covers : List ℕ). reaches 16 (looking_ahead rows covers left c.args.pointers.now) c.args.owner c.first_class-next.result.class) lent.rows_are lent.covers_are
-    ∙ ap (reaches 16 (looking_ahead c.args.p.rows c.args.p.covers left c.args.pointers.now) c.args.owner) (starts-at c ∙ first-least c.args.p (c.args.number + 1) (other c))
+    ∙ ap (reaches 16 (looking_ahead c.args.p.rows c.args.p.covers left c.args.pointers.now) c.args.owner) (starts-at c.before ∙ first-least c.args.p (c.args.number + 1) (other c))
 
 -- the definition there, by the turns left that it picks
-picked : (c : goal.Else-next) (b : Bool) → eqb ((c.args.number + 1) % c.args.p.epoch) 0 ≡ b → elides c.args.p c.args.number c.args.left.now c.args.pointers.now c.args.owner ≡ own-reaches c (cond b c.args.p.caps c.args.left.now)
+picked : (c : Else-next) (b : Bool) → eqb ((c.args.number + 1) % c.args.p.epoch) 0 ≡ b → elides c.args.p c.args.number c.args.left.now c.args.pointers.now c.args.owner ≡ own-reaches c.before.before (cond b c.args.p.caps c.args.left.now)
 unfolding next_left
 picked c b e =
     elides-other c.args.p c.args.number c.args.left.now c.args.pointers.now c.args.owner (other c)
-    ∙ ap (λ (t : Bool). own-reaches c (cond t c.args.p.caps c.args.left.now)) e
+    ∙ ap (λ (t : Bool). own-reaches c.before.before (cond t c.args.p.caps c.args.left.now)) e
 
 -- what the lookahead rests on
-rests : (c : goal.After-first_class-next) → Climbs c.args.rows.now c.args.covers.now × (c.first_class-next.result.class < 16)
+rests : (c : After-first_class-next) → Climbs c.args.rows.now c.args.covers.now × (c.first_class-next.result.class < 16)
 rests c =
     (climbs-lent c.args.p c.args.bottom c.args.free c.args.rows.now c.args.covers.now c.args.caps.now c.requires.0, subst (λ (k : ℕ). k < 16) (sym (starts-at c)) (first_small c.args.p c.requires.0.fit (c.args.number + 1)))
 
@@ -65,27 +66,27 @@ unfolding flows flows_in
 returns-then-next c =
     let p = c.args.p in
     let owner = c.args.owner in
-    let then : c.first_class-next.result.class ≡ home_class p (c.args.number + 1) = starts-at c ∙ first_home p (c.args.number + 1) (home c) in
+    let then : c.first_class-next.result.class ≡ home_class p (c.args.number + 1) = starts-at (goal.at.returns-then-next c).After-first_class-next ∙ first_home p (c.args.number + 1) (home (goal.at.returns-then-next c).Then-next) in
     c.has.ensures
     ∙ ap₂ (λ (rows : List ℕ) (class : ℕ). member (get_or rows owner 0) class) c.requires.0.rows_are then
-    ∙ sym (elides-home p c.args.number c.args.left.now c.args.pointers.now owner (home c))
+    ∙ sym (elides-home p c.args.number c.args.left.now c.args.pointers.now owner (home (goal.at.returns-then-next c).Then-next))
 
 pub nonzero_rem-number : goal.nonzero_rem-number
 nonzero_rem-number c = omega (arith, (policy-laws c.args.p c.requires.0.fit).capped.epoch_bounds.0)
 
 pub reaches-requires : goal.reaches-requires
-reaches-requires c = rests c
+reaches-requires c = rests (goal.at.reaches-requires c).After-first_class-next
 
 pub returns-then-number-p-eq0 : goal.returns-then-number-p-eq0
 returns-then-number-p-eq0 c =
     c.reaches.ensures
-    ∙ ap (λ (left : List ℕ). lent-reaches c left c.first_class-next.result.class) c.requires.0.caps_are
-    ∙ same-reaches c c.args.p.caps
-    ∙ sym (picked c _ (eq-eqb _ 0 c.if-number-p-eq0.true))
+    ∙ ap (λ (left : List ℕ). lent-reaches (goal.at.returns-then-number-p-eq0 c).Start left c.first_class-next.result.class) c.requires.0.caps_are
+    ∙ same-reaches (goal.at.returns-then-number-p-eq0 c).Else-next c.args.p.caps
+    ∙ sym (picked (goal.at.returns-then-number-p-eq0 c).Else-next _ (eq-eqb _ 0 c.if-number-p-eq0.true))
 
 pub reaches-requires-2 : goal.reaches-requires-2
-reaches-requires-2 c = rests c
+reaches-requires-2 c = rests (goal.at.reaches-requires-2 c).After-first_class-next
 
 pub returns : goal.returns
 returns c =
-    c.reaches-2.ensures ∙ same-reaches c c.args.left.now ∙ sym (picked c _ (ne_eqb _ 0 c.if-number-p-eq0.false))
+    c.reaches-2.ensures ∙ same-reaches (goal.at.returns c).Else-next c.args.left.now ∙ sym (picked (goal.at.returns c).Else-next _ (ne_eqb _ 0 c.if-number-p-eq0.false))

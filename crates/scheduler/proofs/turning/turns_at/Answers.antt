@@ -8,19 +8,20 @@ use Rattle.basics.proofs.Truth.{on-true, on-false}
 use Rattle.policy.proofs.Laws.{policy-laws}
 use Rattle.rules.specs.Step.{turn_starts, turn_number, turns_at}
 use Rattle.scheduler.proofs.turning.turns_at.Goals as goal
+use Rattle.scheduler.proofs.turning.turns_at.Goals.{Else-m-ne0, Then-m-ne0}
 
 -- whether a turn starts, by the offset
-none : (c : goal.Then-m-ne0) → turn_starts c.args.p c.args.m.cycle ≡ false
+none : (c : Then-m-ne0) → turn_starts c.args.p c.args.m.cycle ≡ false
 unfolding turn_starts
 none c = ne_eqb _ 0 (λ z. c.if-m-ne0.true (c.requires.lent ∙ z))
 
-one : (c : goal.Else-m-ne0) → turn_starts c.args.p c.args.m.cycle ≡ true
+one : (c : Else-m-ne0) → turn_starts c.args.p c.args.m.cycle ≡ true
 unfolding turn_starts
 one c = eq-eqb _ 0 (sym c.requires.lent ∙ c.if-m-ne0.false)
 
 pub returns-then-m-ne0 : goal.returns-then-m-ne0
 unfolding turns_at
-returns-then-m-ne0 c = sym (on-false (turn_starts c.args.p c.args.m.cycle) _ _ (none c))
+returns-then-m-ne0 c = sym (on-false (turn_starts c.args.p c.args.m.cycle) _ _ (none (goal.at.returns-then-m-ne0 c).Then-m-ne0))
 
 pub nonzero_div-number : goal.nonzero_div-number
 nonzero_div-number c =
@@ -33,4 +34,4 @@ start_turn-requires c =
 pub returns : goal.returns
 unfolding turns_at turn_number
 returns c =
-    c.start_turn.ensures ∙ sym (on-true (turn_starts c.args.p c.args.m.cycle) _ _ (one c))
+    c.start_turn.ensures ∙ sym (on-true (turn_starts c.args.p c.args.m.cycle) _ _ (one (goal.at.returns c).Else-m-ne0))

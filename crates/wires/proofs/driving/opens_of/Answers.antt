@@ -3,16 +3,17 @@ use Rattle.std.proofs.Common.{◌≡◌, ℕ, max, cond, eqb, get_or, ap, ◌∙
 use Rattle.requests.specs.Word.{kind_of, bank_place}
 use Rattle.rules.specs.Wire.{opens_at, bank_gap}
 use Rattle.wires.proofs.driving.opens_of.Goals as goal
+use Rattle.wires.proofs.driving.opens_of.Goals.{After-later-opens, Start}
 
 -- the ticks of the kind and of the bank
-abbrev of-kind : goal.Start → ℕ
-of-kind c = cond (eqb (kind_of c.args.word) 0) c.args.read c.args.write
+abbrev of-kind : Start → ℕ
+of-kind s = cond (eqb (kind_of s.args.word) 0) s.args.read s.args.write
 
-abbrev of-bank : goal.Start → ℕ
-of-bank c = let last = get_or c.args.banks.now (bank_place c.args.word) 0 in opens_at last (bank_gap c.args.timing last)
+abbrev of-bank : Start → ℕ
+of-bank s = let last = get_or s.args.banks.now (bank_place s.args.word) 0 in opens_at last (bank_gap s.args.timing last)
 
 -- the later of them is the one worked out
-two : (c : goal.After-later-opens) → c.later-opens.result ≡ max (of-kind c) (of-bank c)
+two : (c : After-later-opens) → c.later-opens.result ≡ max (of-kind c.before.before.before.before.before.before) (of-bank c.before.before.before.before.before.before)
 two c =
     let a = c.args in
     c.later-opens.ensures
@@ -23,9 +24,9 @@ two c =
 
 -- it has not come
 pub returns-then-tick-opens : goal.returns-then-tick-opens
-returns-then-tick-opens c = record { early = omega (arith, two c); come = λ come. absurd (omega (arith, come, c.if-tick-opens.true)) }
+returns-then-tick-opens c = record { early = omega (arith, two (goal.at.returns-then-tick-opens c).After-later-opens); come = λ come. absurd (omega (arith, come, c.if-tick-opens.true)) }
 
 -- it has, and the rank's is handed back
 pub returns : goal.returns
 returns c =
-    let rank = rw c.rank_of.ensures c c.rank_opens.ensures in record { early = omega (arith, rank); come = λ come. omega (arith, rank, come, two c, c.if-tick-opens.false) }
+    let rank = rw c.rank_of.ensures at c.rank_opens.ensures in record { early = omega (arith, rank); come = λ come. omega (arith, rank, come, two (goal.at.returns c).After-later-opens, c.if-tick-opens.false) }

@@ -5,11 +5,11 @@ use borrow.Author.Rules.{rules}
 use Rattle.decisions.proofs.bank_gap.Goals as goal
 
 pub returns-then-kind-eq0 : goal.returns-then-kind-eq0
-returns-then-kind-eq0 c c =
-    let none : c.before.args.kind ≡ 0 = c.if1.true in
+returns-then-kind-eq0 c kind =
+    let none : c.args.kind ≡ 0 = c.if-kind-eq0.true in
     rw none
 
 pub returns-else-kind-eq0 : goal.returns-else-kind-eq0
-returns-else-kind-eq0 c c =
-    let one : c.before.args.kind ≡ 1 = omega (arith, c, c.if1.false) in
+returns-else-kind-eq0 c kind =
+    let one : c.args.kind ≡ 1 = omega (arith, kind, c.if-kind-eq0.false) in
     rw one

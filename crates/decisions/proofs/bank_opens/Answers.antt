@@ -10,5 +10,5 @@ use Rattle.decisions.proofs.bank_opens.Goals as goal
 pub returns : goal.returns
 returns c =
     let a = c.args in
-    let gap = c.bank_gap-gap.ensures (subst (λ (k : ℕ). k < 2) (sym c.activate_kind.ensures) (kind-small a.of-bank)) in
-    c.opens_at.ensures ∙ ap (opens_at a.of-bank) (gap ∙ ap (λ (k : ℕ). get_or a.timing.bank k 0) c.activate_kind.ensures)
+    let gap = c.bank_gap-gap.ensures (subst (λ (k : ℕ). k < 2) (sym c.activate_kind.ensures) (kind-small a.of_bank)) in
+    c.opens_at.ensures ∙ ap (opens_at a.of_bank) (gap ∙ ap (λ (k : ℕ). get_or a.timing.bank k 0) c.activate_kind.ensures)

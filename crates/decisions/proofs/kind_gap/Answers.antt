@@ -6,25 +6,25 @@ use borrow.Author.Rules.{rules}
 use Rattle.decisions.proofs.kind_gap.Goals as goal
 
 pub returns-then-later-eq0 : goal.returns-then-later-eq0
-returns-then-later-eq0 c earlier c =
-    let a = c.before.before.args in
-    let at : 2 * a.earlier + a.later ≡ 0 = omega (arith, c.before.if1.true, c.if2.true) in
+returns-then-later-eq0 c earlier later =
+    let a = c.args in
+    let at : 2 * a.earlier + a.later ≡ 0 = omega (arith, c.if-earlier-eq0.true, c.if-later-eq0.true) in
     rw at
 
 pub returns-else-later-eq0 : goal.returns-else-later-eq0
-returns-else-later-eq0 c earlier c =
-    let a = c.before.before.args in
-    let at : 2 * a.earlier + a.later ≡ 1 = omega (arith, c, c.before.if1.true, c.if2.false) in
+returns-else-later-eq0 c earlier later =
+    let a = c.args in
+    let at : 2 * a.earlier + a.later ≡ 1 = omega (arith, later, c.if-earlier-eq0.true, c.if-later-eq0.false) in
     rw at
 
 pub returns-then-later-eq0-2 : goal.returns-then-later-eq0-2
-returns-then-later-eq0-2 c earlier c =
-    let a = c.before.before.args in
-    let at : 2 * a.earlier + a.later ≡ 2 = omega (arith, earlier, c.before.if1.false, c.if3.true) in
+returns-then-later-eq0-2 c earlier later =
+    let a = c.args in
+    let at : 2 * a.earlier + a.later ≡ 2 = omega (arith, earlier, c.if-earlier-eq0.false, c.if-later-eq0-2.true) in
     rw at
 
 pub returns-else-later-eq0-2 : goal.returns-else-later-eq0-2
-returns-else-later-eq0-2 c earlier c =
-    let a = c.before.before.args in
-    let at : 2 * a.earlier + a.later ≡ 3 = omega (arith, earlier, c, c.before.if1.false, c.if3.false) in
+returns-else-later-eq0-2 c earlier later =
+    let a = c.args in
+    let at : 2 * a.earlier + a.later ≡ 3 = omega (arith, earlier, later, c.if-earlier-eq0.false, c.if-later-eq0-2.false) in
     rw at

@@ -17,7 +17,7 @@ pub returns-then-not-body : goal.returns-then-not-body
 unfolding fetch_status few within
 returns-then-not-body c =
     let a = c.args in
-    rw (c.if-not-n.false, not-true (within 10 (length a.body.now) 11) c.if-not-body.true)
+    rw (c.if-not-n.false, c.if-not-body.true)
 
 pub body_timing-timing-requires : goal.body_timing-timing-requires
 body_timing-timing-requires c = let size = length c.args.body.now in leb-true size 11 (and_right (leb 10 size) (leb size 11) c.if-not-body.false)
@@ -26,10 +26,10 @@ pub returns-then-not-timing_sound : goal.returns-then-not-timing_sound
 unfolding fetch_status few within
 returns-then-not-timing_sound c =
     let a = c.args in
-    rw (c.if-not-n.false, not-not (within 10 (length a.body.now) 11) c.if-not-body.false, sym c.body_timing-timing.ensures, sym c.timing_sound.ensures ∙ c.if-not-timing_sound.true)
+    rw (c.if-not-n.false, c.if-not-body.false, sym c.body_timing-timing.ensures, sym c.timing_sound.ensures ∙ c.if-not-timing_sound.true)
 
 pub returns : goal.returns
 unfolding fetch_status few within
 returns c =
     let a = c.args in
-    rw (c.if-not-n.false, not-not (within 10 (length a.body.now) 11) c.if-not-body.false, sym c.body_timing-timing.ensures, sym c.timing_sound.ensures ∙ c.if-not-timing_sound.false)
+    rw (c.if-not-n.false, c.if-not-body.false, sym c.body_timing-timing.ensures, sym c.timing_sound.ensures ∙ c.if-not-timing_sound.false)

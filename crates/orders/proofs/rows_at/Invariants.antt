@@ -9,7 +9,7 @@ use Rattle.basics.proofs.Loops.{Filled, filled_none, filled_more, filled-all}
 use Rattle.orders.proofs.rows_at.Given as goal
 
 -- entry i of the rows
-pub entry : ℕ → ℕ → ℕ → ℕ
+unfoldable pub entry : ℕ → ℕ → ℕ → ℕ
 entry n place i = cond (ltb i n) (row_at n place i) 0
 
 abbrev pub invariant-loop-i : goal.invariant-loop-i

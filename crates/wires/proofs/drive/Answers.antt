@@ -103,30 +103,26 @@ module _ (b : Bus) (d : Driven) (e : drive b ≡ d) where
 -- the due word is an offer, since one is due, and so the sum does not wrap
 pub returns-then-due-ne0 : goal.returns-then-due-ne0
 unfolding due_at sent_at column_number command_number
-returns-then-due-ne0 c c =
-    let test = c.before in
-    let b = bus-of (goal.at.returns-then-due-ne0 test).Start in
-    let offer = c.ready.due_offer test.if1.true in
+returns-then-due-ne0 c g =
+    let b = bus-of (goal.at.returns-then-due-ne0 c).Start in
+    let offer = g.ready.due_offer c.if-due-ne0.true in
     let fits : (due_column b + 1073741824) % 4294967296 ≡ due_column b + 1073741824 = omega (arith, offer-fits _ offer) in
-    carried b _ (drive-column b (ne_eqb _ 0 test.if1.true)) _ (c.wrapping-add-u32.ensures ∙ fits ∙ sym (ap column_number (word_back (due_column b) offer))) (column-none b _ c.none_until)
+    carried b _ (drive-column b (ne_eqb _ 0 c.if-due-ne0.true)) _ (c.wrapping_add_u32-command.ensures ∙ fits ∙ sym (ap column_number (word_back (due_column b) offer))) (column-none b _ g.none_until)
 
 -- the offset does not allow it, or none may go by now
 pub returns-then-offset_allows-at : goal.returns-then-offset_allows-at
 unfolding command_number can_activate
-returns-then-offset_allows-at c c =
-    let asked = c.before.before in
-    let test = asked.before in
-    let s = test.before.before.before in
-    let b = bus-of (goal.at.returns-then-offset_allows-at s).Start in
-    let offset = offset_allows s.args.timing s.args.at.elided s.args.at.cycle in
-    let goes = ltb (goes_at b) (length_of (queues-of (goal.at.returns-then-offset_allows-at s).Start) s.args.at.owner) in
+returns-then-offset_allows-at c g =
+    let b = bus-of (goal.at.returns-then-offset_allows-at c).Start in
+    let offset = offset_allows c.args.timing c.args.at.elided c.args.at.cycle in
+    let goes = ltb (goes_at b) (length_of (queues-of (goal.at.returns-then-offset_allows-at c).Start) c.args.at.owner) in
     let cannot : can_activate b ≡ false =
     ⊎_elim
-    (λ out. and-fails-left offset goes (sym (allows (goal.at.returns-then-offset_allows-at asked).After-offset_allows c) ∙ not-true _ out))
-    (λ early. and-fails-right offset goes (none-goes b s.args.at.until c.none_until (ltb-true _ _ early)))
-    (or_cases _ _ c.if2.true)
+    (λ out. and-fails-left offset goes (sym (allows (goal.at.returns-then-offset_allows-at c).After-offset_allows g) ∙ not-true _ out))
+    (λ early. and-fails-right offset goes (none-goes b c.args.at.until g.none_until (ltb-true _ _ early)))
+    (or_cases _ _ c.if-offset_allows-at.true)
     in
-    carried b _ (drive-nothing b (none-due (goal.at.returns-then-offset_allows-at test).Else-due-ne0) cannot) _ refl c.none_until
+    carried b _ (drive-nothing b (none-due (goal.at.returns-then-offset_allows-at c).Else-due-ne0) cannot) _ refl g.none_until
 
 pub goes_at-found-requires : goal.goes_at-found-requires
 goes_at-found-requires c = omega arith
@@ -134,12 +130,10 @@ goes_at-found-requires c = omega arith
 -- none may go
 pub returns-then-length-k : goal.returns-then-length-k
 unfolding command_number can_activate
-returns-then-length-k c c =
-    let at = c.before in
-    let s = at.before.before.before.before.before.before.before.before.before.before.before.before.before in
-    let b = bus-of (goal.at.returns-then-length-k s).Start in
-    let none = le-ltb (goes_at b) (length_of (queues-of (goal.at.returns-then-length-k s).Start) s.args.at.owner) (omega (arith, place_is (goal.at.returns-then-length-k at).After-goes_at-found c, length-is (goal.at.returns-then-length-k s).Start c, c.if3.true)) in
-    carried b _ (drive-nothing b (none-due (goal.at.returns-then-length-k at).Else-due-ne0) (and-fails-right (offset_allows s.args.timing s.args.at.elided s.args.at.cycle) (ltb (goes_at b) (length_of (queues-of (goal.at.returns-then-length-k s).Start) s.args.at.owner)) none)) _ refl (none_from (goal.at.returns-then-length-k at).After-goes_at-found c)
+returns-then-length-k c g =
+    let b = bus-of (goal.at.returns-then-length-k c).Start in
+    let none = le-ltb (goes_at b) (length_of (queues-of (goal.at.returns-then-length-k c).Start) c.args.at.owner) (omega (arith, place_is (goal.at.returns-then-length-k c).After-goes_at-found g, length-is (goal.at.returns-then-length-k c).Start g, c.if-length-k.true)) in
+    carried b _ (drive-nothing b (none-due (goal.at.returns-then-length-k c).Else-due-ne0) (and-fails-right (offset_allows c.args.timing c.args.at.elided c.args.at.cycle) (ltb (goes_at b) (length_of (queues-of (goal.at.returns-then-length-k c).Start) c.args.at.owner)) none)) _ refl (none_from (goal.at.returns-then-length-k c).After-goes_at-found g)
 
 pub waiting_at-word-requires : goal.waiting_at-word-requires
 waiting_at-word-requires c = omega arith
@@ -151,30 +145,25 @@ dequeue-requires c =
 
 pub returns : goal.returns
 unfolding command_number can_activate going head_of waiting_at
-returns c c =
-    let removed = c.before.before.before.before.dequeue.ensures in
-    let read = c.before.before.before.before.before.before.before.before.before in
-    let found = read.before.before in
-    let at = found.before in
-    let s = at.before.before.before.before.before.before.before.before.before.before.before.before.before in
-    let a = s.args in
-    let b = bus-of (goal.at.returns s).Start in
-    let place = place_is (goal.at.returns at).After-goes_at-found c in
-    let owner = owner-is (goal.at.returns s).Start c in
-    let waits : goes_at b < length_of (queues-of (goal.at.returns s).Start) a.at.owner = omega (arith, place, length-is (goal.at.returns s).Start c, found.if3.false) in
-    let asked = at.before.before.before.before.before.before.before in
-    let allowed = sym (allows (goal.at.returns asked).After-offset_allows c) ∙ not-not _ (false-unless _ (λ t. not-both (or_left _ _ t) asked.if2.left)) in
-    let e = drive-activate b (none-due (goal.at.returns at).Else-due-ne0) (and_both allowed (lt-ltb (goes_at b) (length_of (queues-of (goal.at.returns s).Start) a.at.owner) waits)) in
-    let word : read.waiting-at.result ≡ going b =
-    read.waiting-at.ensures ∙ ap₂ (λ (o k : ℕ). get_or a.slots.now (place_of o (get_or a.heads.now o 0) k) 0) owner place
+returns c g =
+    let removed = c.dequeue.ensures in
+    let a = c.args in
+    let b = bus-of (goal.at.returns c).Start in
+    let place = place_is (goal.at.returns c).After-goes_at-found g in
+    let owner = owner-is (goal.at.returns c).Start g in
+    let waits : goes_at b < length_of (queues-of (goal.at.returns c).Start) a.at.owner = omega (arith, place, length-is (goal.at.returns c).Start g, c.if-length-k.false) in
+    let allowed = sym (allows (goal.at.returns c).After-offset_allows g) ∙ not-not _ (false-unless _ (λ t. not-both (or_left _ _ t) c.if-offset_allows-at.false)) in
+    let e = drive-activate b (none-due (goal.at.returns c).Else-due-ne0) (and_both allowed (lt-ltb (goes_at b) (length_of (queues-of (goal.at.returns c).Start) a.at.owner) waits)) in
+    let word : c.waiting_at-word.result ≡ going b =
+    c.waiting_at-word.ensures ∙ ap₂ (λ (o k : ℕ). get_or a.slots.now (place_of o (get_or a.heads.now o 0) k) 0) owner place
     in
-    let request : SoundRequest read.waiting-at.result = subst SoundRequest (sym word) (c.ready.sound (goes_at b) waits) in
+    let request : SoundRequest c.waiting_at-word.result = subst SoundRequest (sym word) (g.ready.sound (goes_at b) waits) in
     let offer = subst (λ (w : ℕ). is_offer w ≡ true) word request.offer in
     let right = carried b _ e (record { command = going b; last = 0; until = 0 }) (sym (word_back (going b) offer)) (λ t early. absurd (not-suc-le-zero early)) in
     record {
       command = word ∙ right.command;
-      queues_are = removed ∙ ap₂ (dequeue (queues-of (goal.at.returns s).Start)) owner place ∙ right.queues_are;
-      flight_is = c.activate.ensures (c.ready.ticks_left, request.kind)
+      queues_are = removed ∙ ap₂ (dequeue (queues-of (goal.at.returns c).Start)) owner place ∙ right.queues_are;
+      flight_is = c.activate-newest.ensures (g.ready.ticks_left, request.kind)
           ∙ ap (λ (w : ℕ). activated a.timing a.columns.now a.responses.now a.banks.now w a.at.cycle) word
           ∙ right.flight_is;
       none_until = right.none_until;

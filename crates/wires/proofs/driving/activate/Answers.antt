@@ -11,12 +11,11 @@ wraps-to sum wrapped e = omega arith
 
 pub returns : goal.returns
 unfolding activated
-returns c (ticks_left, c =
-    let start = c.before.before.before.before.before.before in
-    let a = start.args in
-    let column = wraps-to (a.cycle + a.timing.column) _ c.before.before.before.before.before.wrapping-add-u32.ensures in
-    let response = wraps-to (a.cycle + a.timing.response) _ c.before.before.before.before.wrapping-add-u322.ensures in
+returns c (ticks_left, kind) =
+    let a = c.args in
+    let column = wraps-to (a.cycle + a.timing.column) _ c.wrapping_add_u32.ensures in
+    let response = wraps-to (a.cycle + a.timing.response) _ c.wrapping_add_u32-2.ensures in
     let same-cycle : a.cycle % 16777216 ≡ a.cycle = omega (arith, ticks_left) in
     let same_kind : kind_of a.word % 2 ≡ kind_of a.word = omega (arith, kind) in
     let same_rank : rank_of a.word % 4 ≡ rank_of a.word = let small = rank-small a.word in omega (arith, small) in
-    rw (column, response, c.activate-at.ensures, c.before.kind-of.ensures, c.before.before.rank-of.ensures, c.before.before.before.bank-place.ensures.0, same-cycle, same_kind, same_rank)
+    rw (column, response, c.activate_at-last.ensures, c.kind_of.ensures, c.rank_of.ensures, c.bank_place-bank.ensures.place, same-cycle, same_kind, same_rank)

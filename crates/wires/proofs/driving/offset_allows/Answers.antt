@@ -5,7 +5,7 @@ use Rattle.wires.proofs.driving.offset_allows.Goals as goal
 
 pub returns : goal.returns
 unfolding offset_allows
-returns c (timed, c =
-    let a = c.before.args in
-    let difference : c.wrapping-sub-u32.result ≡ a.timing.turn - a.timing.dead = omega (arith, c.wrapping-sub-u32.ensures, c.wrapping-sub-u32.type-inv, timed.dead_below_turn, timed.turn_bounds) in
+returns c (timed, in_step) =
+    let a = c.args in
+    let difference : c.wrapping_sub_u32.result ≡ a.timing.turn - a.timing.dead = omega (arith, c.wrapping_sub_u32.ensures, c.wrapping_sub_u32.type-inv, timed.dead_below_turn, timed.turn_bounds) in
     ap₂ (λ (k end : ℕ). a.elided || ltb k end) in_step difference

@@ -15,10 +15,9 @@ bounds-slots-place c = omega (arith, c.place.ensures)
 
 pub returns : goal.returns
 unfolding enqueue head_of length_of
-returns c c =
-    let s = c.before.before.before in
-    let class = s.args.class in
-    let head = get_or s.args.heads.now class 0 in
-    let length = get_or s.args.lengths.now class 0 in
-    let stored_at : c.place.result ≡ place class head length = c.place.ensures ∙ of-class class head length s.requires.0 in
+returns c passed =
+    let class = c.args.class in
+    let head = get_or c.args.heads.now class 0 in
+    let length = get_or c.args.lengths.now class 0 in
+    let stored_at : c.place.result ≡ place class head length = c.place.ensures ∙ of-class class head length c.requires.0 in
     rw stored_at

@@ -32,12 +32,12 @@ Given s = Drivable (bus-of s) s.args.at.offset s.args.at.until
 
 -- ---- what each test says
 -- no column command is due
-none-due : (c : Else-due-ne0) → eqb (due_column (bus-of c.before.before.before)) 0 ≡ true
+none-due : (c : Else-due-ne0) → eqb (due_column (bus-of c.before.before.before.before.before)) 0 ≡ true
 unfolding due_at
-none-due c = eq-eqb (due_column (bus-of c.before.before.before.before)) 0 (omega (arith, c.if-due-ne0.false))
+none-due c = eq-eqb (due_column (bus-of c.before.before.before.before.before)) 0 (omega (arith, c.if-due-ne0.false))
 
 -- what the offset test says is what the definition says
-allows : (c : After-offset_allows) → Given c.before.before.before.before → c.offset_allows.result ≡ offset_allows c.args.timing c.args.at.elided c.args.at.cycle
+allows : (c : After-offset_allows) → Given c.before.before.before.before.before.before → c.offset_allows.result ≡ offset_allows c.args.timing c.args.at.elided c.args.at.cycle
 allows c g = c.offset_allows.ensures (g.ready.timed, g.in_step)
 
 -- the owner is one of the sixteen
@@ -45,25 +45,25 @@ owner-is : (s : Start) → Given s → s.args.at.owner % 16 ≡ s.args.at.owner
 owner-is s g = omega (arith, g.ready.class)
 
 -- the queue of what is read as the owner can be looked through
-scannable : (c : After-goes_at-found) → Given c.before.before.before.before.before.before.before.before.before.before.before.before.before → Scannable c.args.slots.now (c.args.at.owner % 16) (get_or c.args.heads.now (c.args.at.owner % 16) 0) (get_or c.args.lengths.now (c.args.at.owner % 16) 0)
+scannable : (c : After-goes_at-found) → Given c.before.before.before.before.before.before.before.before.before.before.before.before.before.before.before.before → Scannable c.args.slots.now (c.args.at.owner % 16) (get_or c.args.heads.now (c.args.at.owner % 16) 0) (get_or c.args.lengths.now (c.args.at.owner % 16) 0)
 unfolding head_of length_of waiting_at
 scannable c g =
     let a = c.args in
-    subst (λ (o : ℕ). Scannable a.slots.now o (get_or a.heads.now o 0) (get_or a.lengths.now o 0)) (sym (owner-is c.before.before.before.before.before.before.before.before.before.before.before.before.before.before.before g))
+    subst (λ (o : ℕ). Scannable a.slots.now o (get_or a.heads.now o 0) (get_or a.lengths.now o 0)) (sym (owner-is c.before.before.before.before.before.before.before.before.before.before.before.before.before.before.before.before g))
     (record { short = g.ready.short; kind = λ k waits. (g.ready.sound k waits).kind })
 
 -- so the place found is that of the request that goes
-place_is : (c : After-goes_at-found) → Given c.before.before.before.before.before.before.before.before.before.before.before.before.before → c.goes_at-found.result.place ≡ goes_at (bus-of c.before.before.before.before.before.before.before.before.before.before.before.before.before)
+place_is : (c : After-goes_at-found) → Given c.before.before.before.before.before.before.before.before.before.before.before.before.before.before.before.before → c.goes_at-found.result.place ≡ goes_at (bus-of c.before.before.before.before.before.before.before.before.before.before.before.before.before.before.before.before)
 unfolding goes_at may_go gaps_met head_of length_of passed_of waiting_at
 place_is c g =
     let a = c.args in
     let found : ℕ → ℕ =
     λ o. first (get_or a.lengths.now o 0) (may_go_by a.timing a.at.cycle a.at.last a.slots.now a.banks.now o (get_or a.heads.now o 0) (get_or a.passed.now o 0))
     in
-    c.goes_at-found.ensures.first (scannable c g) ∙ ap found (owner-is c.before.before.before.before.before.before.before.before.before.before.before.before.before.before.before g)
+    c.goes_at-found.ensures.first (scannable c g) ∙ ap found (owner-is c.before.before.before.before.before.before.before.before.before.before.before.before.before.before.before.before g)
 
 -- and before the tick found none may go
-none_from : (c : After-goes_at-found) → Given c.before.before.before.before.before.before.before.before.before.before.before.before.before → NoneUntil (bus-of c.before.before.before.before.before.before.before.before.before.before.before.before.before) c.goes_at-found.result.until
+none_from : (c : After-goes_at-found) → Given c.before.before.before.before.before.before.before.before.before.before.before.before.before.before.before.before → NoneUntil (bus-of c.before.before.before.before.before.before.before.before.before.before.before.before.before.before.before.before) c.goes_at-found.result.until
 unfolding may_go gaps_met head_of length_of passed_of waiting_at
 none_from c g =
     let a = c.args in
@@ -71,7 +71,7 @@ none_from c g =
     λ o. (t : ℕ) → t + 1 < c.goes_at-found.result.until → (k : ℕ) → k < get_or a.lengths.now o 0
     → may_go_by a.timing t a.at.last a.slots.now a.banks.now o (get_or a.heads.now o 0) (get_or a.passed.now o 0) k ≡ false
     in
-    subst before (owner-is c.before.before.before.before.before.before.before.before.before.before.before.before.before.before.before g) (c.goes_at-found.ensures.until (scannable c g))
+    subst before (owner-is c.before.before.before.before.before.before.before.before.before.before.before.before.before.before.before.before g) (c.goes_at-found.ensures.until (scannable c g))
 
 length-is : (s : Start) → Given s → get_or s.args.lengths.now (s.args.at.owner % 16) 0 ≡ length_of (queues-of s) s.args.at.owner
 unfolding length_of
@@ -107,7 +107,7 @@ returns-then-due-ne0 c g =
     let b = bus-of (goal.at.returns-then-due-ne0 c).Start in
     let offer = g.ready.due_offer c.if-due-ne0.true in
     let fits : (due_column b + 1073741824) % 4294967296 ≡ due_column b + 1073741824 = omega (arith, offer-fits _ offer) in
-    carried b _ (drive-column b (ne_eqb _ 0 c.if-due-ne0.true)) _ (c.wrapping_add_u32-command.ensures ∙ fits ∙ sym (ap column_number (word_back (due_column b) offer))) (column-none b _ g.none_until)
+    carried b _ (drive-column b (ne_eqb _ 0 c.if-due-ne0.true)) _ (c.wrapping_add_u32-command.ensures.value ∙ fits ∙ sym (ap column_number (word_back (due_column b) offer))) (column-none b _ g.none_until)
 
 -- the offset does not allow it, or none may go by now
 pub returns-then-offset_allows-at : goal.returns-then-offset_allows-at

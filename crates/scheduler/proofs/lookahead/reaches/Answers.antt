@@ -26,7 +26,7 @@ ahead_of s = looking_ahead s.args.rows.now s.args.covers.now s.args.left.now s.a
 apart : (c : After-nth-class) → eqb c.loop-class.class c.args.owner ≡ false
 apart c = ne_eqb c.loop-class.class c.args.owner c.loop-class-test.true
 
-on : (c : After-nth-class) → goes_on (ahead_of c.before.before.before.before.before.before.before.before.before.before.before) c.args.owner c.loop-class.class ≡ true
+on : (c : After-nth-class) → goes_on (ahead_of c.before.before.before.before.before.before.before.before.before.before.before.before.before.before.before) c.args.owner c.loop-class.class ≡ true
 unfolding goes_on flows_in
 on c =
     sym (ap (λ (b : Bool). b && eqb (get_or c.args.left.now c.loop-class.class 0) 0) c.has-flows.ensures)

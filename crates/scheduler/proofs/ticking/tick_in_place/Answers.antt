@@ -41,7 +41,7 @@ right-turns s = turns_at s.args.p s.args.m.cycle s.args.lengths.now (given s).tu
 abbrev turned : After-turns_at-owned → TurnStart
 turned c = start_of c.turns_at-owned.result c.turns_at-owned.new.left c.turns_at-owned.new.pointers
 
-turned_right : (c : After-turns_at-owned) → turned c ≡ right-turns c.before.before.before.before.before
+turned_right : (c : After-turns_at-owned) → turned c ≡ right-turns c.before.before.before.before
 turned_right c = c.turns_at-owned.ensures
 
 -- the owner is one of the sixteen, so the second step has what it rests on
@@ -61,7 +61,7 @@ bus-fit c = bus-range c.args.p (given c.before.before.before.before) (fit c.befo
 abbrev right-drive : Start → Driven
 right-drive s = drive (bus_at s.args.p (given s) (right-turns s).turns)
 
-driven-right : (c : After-drive-drove) → drive (bus c.before.before.before.before.before.before.before.before.before) ≡ right-drive c.before.before.before.before.before.before.before.before.before.before.before.before.before.before
+driven-right : (c : After-drive-drove) → drive (bus c.before.before.before.before.before.before.before.before.before) ≡ right-drive c.before.before.before.before.before.before.before.before.before.before.before.before.before
 driven-right c = ap (λ (t : TurnStart). drive (bus_at c.args.p (given c.before.before.before.before.before.before.before.before.before.before.before.before.before) t.turns)) (turned_right c.before.before.before.before.before.before.before.before.before)
 
 abbrev queues-driven : After-drive-drove → Queues
@@ -92,7 +92,7 @@ promised : (c : After-drive-drove) → Carried (bus c.before.before.before.befor
 promised c =
     c.drive-drove.ensures (record { ready = ready c.args.p.classes (bus c.before.before.before.before.before.before.before.before.before) (bus-fit c.before.before.before.before.before.before.before.before.before) c.requires.working; in_step = c.requires.banks_value.in_step; none_until = none-given c })
 
-flight-right : (c : After-drive-drove) → flight-driven c ≡ (right-drive c.before.before.before.before.before.before.before.before.before.before.before.before.before.before).flight
+flight-right : (c : After-drive-drove) → flight-driven c ≡ (right-drive c.before.before.before.before.before.before.before.before.before.before.before.before.before).flight
 flight-right c = (promised c).flight_is ∙ ap (λ (d : Driven). d.flight) (driven-right c)
 
 -- ---- a tick's answer, of its parts

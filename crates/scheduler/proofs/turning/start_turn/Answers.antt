@@ -67,7 +67,7 @@ either_way s =
     (λ idle. rw idle (sym (home-idle a.p a.number a.lengths.now (full s) idle 16 a.pointers.now (first_class a.p a.number))))
     (either (takes_home a.p a.number a.lengths.now))
 
-walked : (c : After-owner_from-owner) → reached c ≡ walk c.before.before.before.before.before.before.before.before
+walked : (c : After-owner_from-owner) → reached c ≡ walk c.before.before.before.before.before.before.before
 walked c =
     let a = c.args in
     let ends : Bool → List ℕ → List ℕ → ℕ → Reached =
@@ -90,7 +90,7 @@ tries-few c =
     (tried-few (candidates a.p.covers a.lengths.now (left_tried a.p a.number (full c.before.before.before.before.before.before.before))) 16 a.pointers.now (first_class a.p a.number))
 
 -- ---- the charge
-charged-is : (c : After-charge) → c.charge.new.left ≡ charged c.args.p c.args.number c.args.lengths.now (full c.before.before.before.before.before.before.before.before.before.before) c.owner_from-owner.result
+charged-is : (c : After-charge) → c.charge.new.left ≡ charged c.args.p c.args.number c.args.lengths.now (full c.before.before.before.before.before.before.before.before.before) c.owner_from-owner.result
 unfolding charged
 charged-is c =
     c.charge.ensures

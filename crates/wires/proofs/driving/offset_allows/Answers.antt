@@ -7,5 +7,5 @@ pub returns : goal.returns
 unfolding offset_allows
 returns c (timed, in_step) =
     let a = c.args in
-    let difference : c.wrapping_sub_u32.result ≡ a.timing.turn - a.timing.dead = omega (arith, c.wrapping_sub_u32.ensures, c.wrapping_sub_u32.type-inv, timed.dead_below_turn, timed.turn_bounds) in
+    let difference : c.wrapping_sub_u32.result ≡ a.timing.turn - a.timing.dead = omega (arith, c.wrapping_sub_u32.ensures.value, c.wrapping_sub_u32.type_inv, timed.dead_below_turn, timed.turn_bounds) in
     ap₂ (λ (k end : ℕ). a.elided || ltb k end) in_step difference

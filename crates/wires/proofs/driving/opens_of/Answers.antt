@@ -13,7 +13,7 @@ abbrev of-bank : Start → ℕ
 of-bank s = let last = get_or s.args.banks.now (bank_place s.args.word) 0 in opens_at last (bank_gap s.args.timing last)
 
 -- the later of them is the one worked out
-two : (c : After-later-opens) → c.later-opens.result ≡ max (of-kind c.before.before.before.before.before.before) (of-bank c.before.before.before.before.before.before)
+two : (c : After-later-opens) → c.later-opens.result ≡ max (of-kind c.before.before.before.before.before.before.before.before) (of-bank c.before.before.before.before.before.before.before.before)
 two c =
     let a = c.args in
     c.later-opens.ensures

@@ -5,7 +5,6 @@
 
 ghost use Rattle.std.specs.Prelude.{◌≡◌, true, ◌++◌, ◌+◌, ◌*◌, ◌≤◌, length, drop};
 ghost use Rattle.state.specs.Range.{in_range};
-ghost use Rattle.state.specs.declared.State.{State};
 ghost use Rattle.rules.specs.Calls.{answer_to, state_after, log_of, line_written};
 ghost use Rattle.rules.specs.Run.{run, log_after};
 ghost use Rattle.scheduler.specs.InPlace.{with_until, state_of, answered_with, answer_of, NoneYet, Working, Continues};
@@ -73,14 +72,17 @@ fn call_at(
     responses: &mut Pending,
     banks: &mut Banks,
 ) -> Called
-    ghost s: { State }
-    requires banks_value { state_of m slots.old heads.old lengths.old passed.old left.old pointers.old columns.old responses.old banks.old
-        ≡ s }
-    requires working { Working p s m rows.now covers.now caps.now }
-    ensures answered { answer_of result (state_of result.moment slots.new heads.new lengths.new
+    requires { let s = state_of m slots.old heads.old lengths.old passed.old left.old pointers.old
+        columns.old responses.old banks.old in
+        Working p s m rows.now covers.now caps.now }
+    ensures answered { let s = state_of m slots.old heads.old lengths.old passed.old left.old pointers.old
+        columns.old responses.old banks.old in
+        answer_of result (state_of result.moment slots.new heads.new lengths.new
         passed.new left.new pointers.new columns.new responses.new banks.new) ≡ answer_to p s word }
     ensures next { Continues p m result.moment }
-    ensures until { NoneYet p (answer_to p s word).state result.moment }
+    ensures until { let s = state_of m slots.old heads.old lengths.old passed.old left.old pointers.old
+        columns.old responses.old banks.old in
+        NoneYet p (answer_to p s word).state result.moment }
 {
     let call = requests::call_of(word);
     match call {
@@ -122,13 +124,16 @@ fn calls(
     trace: &[u32],
     log: &mut [u32],
 ) -> Moment
-    ghost s: { State }
-    requires banks_value { state_of start slots.old heads.old lengths.old passed.old left.old pointers.old columns.old responses.old banks.old
-        ≡ s }
-    requires working { Working p s start rows.now covers.now caps.now × (4 * length trace.now ≤ length log.old) }
-    ensures state { state_of result slots.new heads.new lengths.new passed.new left.new
+    requires { let s = state_of start slots.old heads.old lengths.old passed.old left.old pointers.old
+        columns.old responses.old banks.old in
+        Working p s start rows.now covers.now caps.now × (4 * length trace.now ≤ length log.old) }
+    ensures state { let s = state_of start slots.old heads.old lengths.old passed.old left.old pointers.old
+        columns.old responses.old banks.old in
+        state_of result slots.new heads.new lengths.new passed.new left.new
         pointers.new columns.new responses.new banks.new ≡ state_after p s trace.now }
-    ensures logged { log.new
+    ensures logged { let s = state_of start slots.old heads.old lengths.old passed.old left.old pointers.old
+        columns.old responses.old banks.old in
+        log.new
         ≡ log_of p s trace.now ++ drop (4 * length trace.now) log.old }
 {
     let bottom = start.bottom;

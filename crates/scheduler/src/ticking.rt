@@ -5,7 +5,6 @@ ghost use Rattle.turns.specs.Turns.{free_turns};
 ghost use Rattle.policy.specs.Policy.{least, in_range};
 ghost use Rattle.policy.specs.Laws.{TimingLaws};
 ghost use Rattle.requests.specs.Sizes.{last_cycle};
-ghost use Rattle.state.specs.declared.State.{State};
 ghost use Rattle.rules.specs.Call.{after_tick};
 ghost use Rattle.rules.specs.Calls.{ticked};
 ghost use Rattle.scheduler.specs.InPlace.{moment_of, next_moment, state_of, answer_of, NoneYet, Working, Continues};
@@ -178,14 +177,17 @@ pub(crate) fn tick_in_place(
     responses: &mut Pending,
     banks: &mut Banks,
 ) -> Called
-    ghost s: { State }
-    requires banks_value { state_of m slots.old heads.old lengths.old passed.old left.old pointers.old columns.old responses.old banks.old
-        ≡ s }
-    requires working { Working p s m rows.now covers.now caps.now × (m.cycle < last_cycle) }
-    ensures ticked { answer_of result (state_of result.moment slots.new heads.new lengths.new
+    requires { let s = state_of m slots.old heads.old lengths.old passed.old left.old pointers.old
+        columns.old responses.old banks.old in
+        Working p s m rows.now covers.now caps.now × (m.cycle < last_cycle) }
+    ensures ticked { let s = state_of m slots.old heads.old lengths.old passed.old left.old pointers.old
+        columns.old responses.old banks.old in
+        answer_of result (state_of result.moment slots.new heads.new lengths.new
         passed.new left.new pointers.new columns.new responses.new banks.new) ≡ ticked (after_tick p s) }
     ensures next { Continues p m result.moment }
-    ensures until { NoneYet p (after_tick p s).state result.moment }
+    ensures until { let s = state_of m slots.old heads.old lengths.old passed.old left.old pointers.old
+        columns.old responses.old banks.old in
+        NoneYet p (after_tick p s).state result.moment }
 {
     let timing = p.timing;
     let owned = turning::turns_at(p, m, rows, covers, caps, lengths, left, pointers);

@@ -183,11 +183,10 @@ pub(crate) fn turns_at(
     left: &mut [u32; 16],
     pointers: &mut [usize; 16],
 ) -> Owned
-    ghost turns: { Turns }
-    requires pointers_value { turns_of m.owner m.elided left.old pointers.old ≡ turns }
-    requires lent { Lent p m.bottom m.free rows.now covers.now caps.now × InStep p m × (m.cycle < last_cycle)
+    requires { Lent p m.bottom m.free rows.now covers.now caps.now × InStep p m × (m.cycle < last_cycle)
         × (length left.old ≡ 16) × (length pointers.old ≡ 16) }
-    ensures { start_of result left.new pointers.new ≡ turns_at p m.cycle lengths.now turns }
+    ensures { start_of result left.new pointers.new ≡ turns_at p m.cycle lengths.now
+        (turns_of m.owner m.elided left.old pointers.old) }
 {
     if m.offset != 0 {
         return Owned {

@@ -29,12 +29,15 @@ calls-end-requires c =
     let p = c.args.p in
     let e : c.moment_of-start.result ≡ moment_of p c.args.s = c.moment_of-start.ensures in
     let fit = (ranged p c.args.s c.requires.0).fit in
-    let work = with-numbers c.args.s c.moment_of-start.result in record { banks_value = record {
+    let work = with-numbers c.args.s c.moment_of-start.result in (
+      record {
         ranges = subst (λ (x : State). in_range p x ≡ true) (sym (same-state (goal.at.calls-end-requires c).After-moment_of-start)) c.requires.0;
         in_step = subst (InStep p) (sym e) refl;
         none_until = nothing_known (bus_at p work work.turns) c.moment_of-start.result.until (ap (λ (m : Moment). m.until) e);
         lent = record { fit = fit; bottom_is = ap (λ (m : Moment). m.bottom) e; free_is = ap (λ (m : Moment). m.free) e; rows_are = refl; covers_are = refl; caps_are = refl };
-      }; working = c.requires.1 }
+      },
+      c.requires.1,
+    )
 
 pub returns : goal.returns
 returns c =

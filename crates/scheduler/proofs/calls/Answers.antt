@@ -39,12 +39,12 @@ abbrev first : Start → State
 first s = state_of s.args.start s.args.slots.now s.args.heads.now s.args.lengths.now s.args.passed.now s.args.left.now s.args.pointers.now s.args.columns.now s.args.responses.now s.args.banks.now
 
 abbrev present : At-loop-i → State
-present c = state_of (numbers c.loop-i.cycle c.loop-i.offset c.args.start.bottom c.args.start.free c.args.start.classes c.loop-i.owner c.loop-i.elided c.loop-i.new c.loop-i.until) c.loop-i.slots c.loop-i.heads c.loop-i.lengths c.loop-i.passed c.loop-i.false c.loop-i.pointers c.loop-i.columns c.loop-i.responses c.loop-i.banks
+present c = state_of (numbers c.loop-i.cycle c.loop-i.offset c.args.start.bottom c.args.start.free c.args.start.classes c.loop-i.owner c.loop-i.elided c.loop-i.last c.loop-i.until) c.loop-i.slots c.loop-i.heads c.loop-i.lengths c.loop-i.passed c.loop-i.left c.loop-i.pointers c.loop-i.columns c.loop-i.responses c.loop-i.banks
 
 pub loop-i-init : goal.loop-i-init
 unfolding state_after log_of
 loop-i-init c =
-    record { so_far = zero-le; room = c.requires.working; state = refl; long = refl; logged = refl; working = c.requires.banks_value }
+    record { so_far = zero-le; room = c.requires.1; state = refl; long = refl; logged = refl; working = c.requires.0 }
 
 pub offset_bounds-trace-i : goal.offset_bounds-trace-i
 offset_bounds-trace-i c = omega (arith, c.loop-i-test.true, c.loop-i.invariant.room, log-fits (goal.at.offset_bounds-trace-i c).Start)
@@ -78,32 +78,29 @@ loop-i-preserved c =
     let trace = c.args.trace.now in
     let word = get_or trace i 0 in
     let did = c.call_at-called.ensures in
-    let next = did.1.0 in
+    let next = did.next in
     let r = c.call_at-called.result in
     let m = r.moment in
     let left : ℕ → State = λ n. state_of (numbers m.cycle m.offset c.args.start.bottom c.args.start.free n m.owner m.elided m.last m.until) c.call_at-called.new.slots c.call_at-called.new.heads c.call_at-called.new.lengths c.call_at-called.new.passed c.call_at-called.new.left c.call_at-called.new.pointers c.call_at-called.new.columns c.call_at-called.new.responses c.call_at-called.new.banks in
-    let state : left c.args.start.classes ≡ (answer_to p (present (goal.at.loop-i-preserved c).At-loop-i) word).state = ap left (sym next.same_count) ∙ ap (λ (a : Answer). a.state) did.0 in
-    let line = c.write.ensures ∙ ap (written c.loop-i.log (4 * i)) did.0 in
+    let state : left c.args.start.classes ≡ (answer_to p (present (goal.at.loop-i-preserved c).At-loop-i) word).state = ap left (sym next.same_count) ∙ ap (λ (a : Answer). a.state) did.answered in
+    let line = c.write.ensures ∙ ap (written c.loop-i.log (4 * i)) did.answered in
     record {
       so_far = omega (arith, more);
       room = inv.room;
       long = ap length line ∙ written-long c.loop-i.log (4 * i) (answer_to p (present (goal.at.loop-i-preserved c).At-loop-i) word) ∙ inv.long;
-      state = state ∙ ap (λ (c.before.before.before.before.before.before.before.before.before.before.before.before.before.before.before.before.before.before.before.before : State). (answer_to p c.before.before.before.before.before.before.before.before.before.before.before.before.before.before.before.before.before.before.before.before word).state) inv.state ∙ sym (state-more p (first (goal.at.loop-i-preserved c).Start) trace i more);
+      state = state ∙ ap (λ (s : State). (answer_to p s word).state) inv.state ∙ sym (state-more p (first (goal.at.loop-i-preserved c).Start) trace i more);
       logged =
           line
-          ∙ ap (λ (c.before.before.before.before.before.before.before.before.before.before.before.before.before.before.before.before.before.before.before.before : State). written c.loop-i.log (4 * i) (answer_to p c.before.before.before.before.before.before.before.before.before.before.before.before.before.before.before.before.before.before.before.before word)) inv.state
+          ∙ ap (λ (s : State). written c.loop-i.log (4 * i) (answer_to p s word)) inv.state
           ∙ log-more p (first (goal.at.loop-i-preserved c).Start) trace i more c.args.log.now c.loop-i.log (omega (arith, more, inv.room)) inv.logged;
       working =
           record {
-            ranges = subst (λ (c.before.before.before.before.before.before.before.before.before.before.before.before.before.before.before.before.before.before.before.before : State). in_range p c.before.before.before.before.before.before.before.before.before.before.before.before.before.before.before.before.before.before.before.before ≡ true) (sym state) (answered-in-range p (present (goal.at.loop-i-preserved c).At-loop-i) word inv.working.ranges);
+            ranges = subst (λ (s : State). in_range p s ≡ true) (sym state) (answered-in-range p (present (goal.at.loop-i-preserved c).At-loop-i) word inv.working.ranges);
             in_step = next.in_step;
-            none_until = subst (λ (u : State). NoneYet p u m) (sym state) did.1.1;
+            none_until = subst (λ (u : State). NoneYet p u m) (sym state) did.until;
             lent = inv.working.lent;
           };
     }
-
-pub shape_of-log : goal.shape_of-log
-shape_of-log c = c.loop-i.invariant.long
 
 pub returns : goal.returns
 returns c =

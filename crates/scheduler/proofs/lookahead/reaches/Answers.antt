@@ -26,7 +26,7 @@ ahead_of s = looking_ahead s.args.rows.now s.args.covers.now s.args.left.now s.a
 apart : (c : After-nth-class) → eqb c.loop-class.class c.args.owner ≡ false
 apart c = ne_eqb c.loop-class.class c.args.owner c.loop-class-test.true
 
-on : (c : After-nth-class) → goes_on (ahead_of c.before.before.before.before.before.before.before.before.before.before.before.before.before.before.before) c.args.owner c.loop-class.class ≡ true
+on : (c : After-nth-class) → goes_on (ahead_of c.before.before.before.before.before.before.before.before.before.before.before.before.before.before.before.before) c.args.owner c.loop-class.class ≡ true
 unfolding goes_on flows_in
 on c =
     sym (ap (λ (b : Bool). b && eqb (get_or c.args.left.now c.loop-class.class 0) 0) c.has-flows.ensures)
@@ -38,7 +38,7 @@ next c = c.nth-class.ensures ∙ ap (nth (get_or c.args.covers.now c.loop-class.
 
 covered : (c : After-nth-class) → member (get_or c.args.covers.now c.loop-class.class 0) (named c.args.covers.now c.args.pointers.now c.loop-class.class) ≡ true
 covered c =
-    on-covers (ahead_of c.before.before.before.before.before.before.before.before.before.before.before.before.before.before.before) c.args.owner c.requires.0 c.loop-class.class (apart c) (on c)
+    on-covers (ahead_of c.before.before.before.before.before.before.before.before.before.before.before.before.before.before.before.before) c.args.owner c.requires.0 c.loop-class.class (apart c) (on c)
 
 pub loop-class-init : goal.loop-class-init
 loop-class-init c = (c.requires.1, refl)
@@ -50,7 +50,7 @@ returns-then-not-flows-spent c =
     let stops : goes_on (ahead_of (goal.at.returns-then-not-flows-spent c).Start) c.args.owner c.loop-class.class ≡ false =
     sym (ap (λ (b : Bool). b && eqb (get_or c.args.left.now c.loop-class.class 0) 0) c.has-flows.ensures) ∙ c.if-not-flows-spent.true
     in
-    sym (c.loop-class.invariant.1 ∙ reach-fails (ahead_of (goal.at.returns-then-not-flows-spent c).Start) c.args.owner 16 c.loop-class.class apart (goal.at.returns-then-not-flows-spent stops).After-nth-class)
+    sym (c.loop-class.invariant.1 ∙ reach-fails (ahead_of (goal.at.returns-then-not-flows-spent c).Start) c.args.owner 16 c.loop-class.class apart stops)
 
 pub loop-class-smaller : goal.loop-class-smaller
 loop-class-smaller c = rw (next (goal.at.loop-class-smaller c).After-nth-class) (c.requires.0.falls c.loop-class.class _ (covered (goal.at.loop-class-smaller c).After-nth-class))

@@ -32,7 +32,7 @@ abbrev given : Start → State
 given s = state_of s.args.m s.args.slots.now s.args.heads.now s.args.lengths.now s.args.passed.now s.args.left.now s.args.pointers.now s.args.columns.now s.args.responses.now s.args.banks.now
 
 fit : (s : Start) → Ranged s.args.p (given s)
-fit s = ranged s.args.p (given s) s.requires.banks_value.ranges
+fit s = ranged s.args.p (given s) s.requires.0.ranges
 
 -- the definition's turns, and those of the first step
 abbrev right-turns : Start → TurnStart
@@ -82,15 +82,15 @@ none-given c =
     ⊎_elim
     (λ start. nothing_known (bus c.before.before.before.before.before.before.before.before.before) c.until_of.result (result ∙ ap (λ (b : Bool). cond b 0 until) start))
     (λ goes_on.
-    let same : c.until_of.result ≡ until = result ∙ ap (λ (b : Bool). cond b 0 until) goes-on in
-    let stays : turned c.before.before.before.before.before.before.before.before.before ≡ record { turns = (given c.before.before.before.before.before.before.before.before.before.before.before.before.before).turns; shown = 0 } = turned_right c.before.before.before.before.before.before.before.before.before ∙ on-false starts _ _ (ap (λ (k : ℕ). eqb k 0) (sym c.requires.banks_value.in_step) ∙ goes-on) in
-    subst (NoneUntil (bus c.before.before.before.before.before.before.before.before.before)) (sym same) (subst (λ (x : TurnStart). NoneUntil (bus_at p (given c.before.before.before.before.before.before.before.before.before.before.before.before.before) x.turns) until) (sym stays) c.requires.banks_value.none_until))
+    let same : c.until_of.result ≡ until = result ∙ ap (λ (b : Bool). cond b 0 until) goes_on in
+    let stays : turned c.before.before.before.before.before.before.before.before.before ≡ record { turns = (given c.before.before.before.before.before.before.before.before.before.before.before.before.before).turns; shown = 0 } = turned_right c.before.before.before.before.before.before.before.before.before ∙ on-false starts _ _ (ap (λ (k : ℕ). eqb k 0) (sym c.requires.0.in_step) ∙ goes_on) in
+    subst (NoneUntil (bus c.before.before.before.before.before.before.before.before.before)) (sym same) (subst (λ (x : TurnStart). NoneUntil (bus_at p (given c.before.before.before.before.before.before.before.before.before.before.before.before.before) x.turns) until) (sym stays) c.requires.0.none_until))
     (either (eqb offset 0))
 
 -- what the second step in place promises of it
 promised : (c : After-drive-drove) → Carried (bus c.before.before.before.before.before.before.before.before.before) c.drive-drove.result (queues-driven c) (flight-driven c)
 promised c =
-    c.drive-drove.ensures (record { ready = ready c.args.p.classes (bus c.before.before.before.before.before.before.before.before.before) (bus-fit c.before.before.before.before.before.before.before.before.before) c.requires.working; in_step = c.requires.banks_value.in_step; none_until = none-given c })
+    c.drive-drove.ensures (record { ready = ready c.args.p.classes (bus c.before.before.before.before.before.before.before.before.before) (bus-fit c.before.before.before.before.before.before.before.before.before) c.requires.1; in_step = c.requires.0.in_step; none_until = none-given c })
 
 flight-right : (c : After-drive-drove) → flight-driven c ≡ (right-drive c.before.before.before.before.before.before.before.before.before.before.before.before.before).flight
 flight-right c = (promised c).flight_is ∙ ap (λ (d : Driven). d.flight) (driven-right c)
@@ -112,26 +112,24 @@ module _ (t n : ℕ) where
 
 pub turns_at-owned-requires : goal.turns_at-owned-requires
 turns_at-owned-requires c =
-    (c.requires.banks_value.lent, c.requires.banks_value.in_step, c.requires.working, (fit (goal.at.turns_at-owned-requires c).Start).turns.left_within.sixteen, (fit (goal.at.turns_at-owned-requires c).Start).turns.pointers_fit.sixteen)
+    (c.requires.0.lent, c.requires.0.in_step, c.requires.1, (fit (goal.at.turns_at-owned-requires c).Start).turns.left_within.sixteen, (fit (goal.at.turns_at-owned-requires c).Start).turns.pointers_fit.sixteen)
 
 pub next_moment-moment-requires : goal.next_moment-moment-requires
 next_moment-moment-requires c =
-    ((policy-laws c.args.p (fit (goal.at.next_moment-moment-requires c).Start).fit).timed, c.requires.banks_value.in_step, c.requires.working)
+    ((policy-laws c.args.p (fit (goal.at.next_moment-moment-requires c).Start).fit).timed, c.requires.0.in_step, c.requires.1)
 
 pub returns : goal.returns
 unfolding after_tick answered may_go gaps_met
 returns c =
     let t = c.args.m.cycle in
     let sent = c.take_due-response.ensures in
-    let responded : Flight → List ℕ → Flight = λ f responses. record { columns = f.columns; responses = responses; banks = f.banks; last = f.last } in let both = rw c.next_moment-moment.ensures (
-      same-answers t c.args.m.classes
+    let responded : Flight → List ℕ → Flight = λ f responses. record { columns = f.columns; responses = responses; banks = f.banks; last = f.last } in record {
+      ticked = rw c.next_moment-moment.ensures (same-answers t c.args.m.classes
           ((promised (goal.at.returns c).After-drive-drove).queues_are ∙ ap (λ (x : Driven). x.queues) (driven-right (goal.at.returns c).After-drive-drove))
           (turned_right (goal.at.returns c).After-turns_at-owned)
-          (ap (responded (flight-driven (goal.at.returns c).After-drive-drove)) sent.1 ∙ ap (answered t) (flight-right (goal.at.returns c).After-drive-drove))
+          (ap (responded (flight-driven (goal.at.returns c).After-drive-drove)) sent.sent ∙ ap (answered t) (flight-right (goal.at.returns c).After-drive-drove))
           ((promised (goal.at.returns c).After-drive-drove).command ∙ ap (λ (x : Driven). command_number x.wires) (driven-right (goal.at.returns c).After-drive-drove))
-          (sent.0 ∙ ap (λ (f : Flight). due_at f.responses t) (flight-right (goal.at.returns c).After-drive-drove)),
-      (
-        record { in_step = refl; same_bottom = refl; same_free = refl; same_count = refl },
-        subst (λ (x : TurnStart). NoneUntil (left_by (bus_at c.args.p (given (goal.at.returns c).Start) x.turns) (drive (bus_at c.args.p (given (goal.at.returns c).Start) x.turns))) c.drive-drove.result.until) (turned_right (goal.at.returns c).After-turns_at-owned) (promised (goal.at.returns c).After-drive-drove).none_until,
-      ),
-    ) in record { ticked = both.0; next = both.1.0; until = both.1.1 }
+          (sent.word ∙ ap (λ (f : Flight). due_at f.responses t) (flight-right (goal.at.returns c).After-drive-drove)));
+      next = rw c.next_moment-moment.ensures (record { in_step = refl; same_bottom = refl; same_free = refl; same_count = refl });
+      until = rw c.next_moment-moment.ensures (subst (λ (x : TurnStart). NoneUntil (left_by (bus_at c.args.p (given (goal.at.returns c).Start) x.turns) (drive (bus_at c.args.p (given (goal.at.returns c).Start) x.turns))) c.drive-drove.result.until) (turned_right (goal.at.returns c).After-turns_at-owned) (promised (goal.at.returns c).After-drive-drove).none_until);
+    }

@@ -13,11 +13,11 @@ use Rattle.scheduler.proofs.turning.turns_at.Goals.{Else-m-ne0, Then-m-ne0}
 -- whether a turn starts, by the offset
 none : (c : Then-m-ne0) → turn_starts c.args.p c.args.m.cycle ≡ false
 unfolding turn_starts
-none c = ne_eqb _ 0 (λ z. c.if-m-ne0.true (c.requires.lent ∙ z))
+none c = ne_eqb _ 0 (λ z. c.if-m-ne0.true (c.requires.1 ∙ z))
 
 one : (c : Else-m-ne0) → turn_starts c.args.p c.args.m.cycle ≡ true
 unfolding turn_starts
-one c = eq-eqb _ 0 (sym c.requires.lent ∙ c.if-m-ne0.false)
+one c = eq-eqb _ 0 (sym c.requires.1 ∙ c.if-m-ne0.false)
 
 pub returns-then-m-ne0 : goal.returns-then-m-ne0
 unfolding turns_at
@@ -25,11 +25,11 @@ returns-then-m-ne0 c = sym (on-false (turn_starts c.args.p c.args.m.cycle) _ _ (
 
 pub nonzero_div-number : goal.nonzero_div-number
 nonzero_div-number c =
-    omega (arith, (policy-laws c.args.p c.requires.pointers_value.fit).timed.turn_bounds.0)
+    omega (arith, (policy-laws c.args.p c.requires.0.fit).timed.turn_bounds.0)
 
 pub start_turn-requires : goal.start_turn-requires
 start_turn-requires c =
-    (c.requires.pointers_value, omega (arith, div-le_self c.args.m.cycle c.args.p.timing.turn, c.requires.2), c.requires.3, c.requires.4)
+    (c.requires.0, omega (arith, div-le_self c.args.m.cycle c.args.p.timing.turn, c.requires.2), c.requires.3, c.requires.4)
 
 pub returns : goal.returns
 unfolding turns_at turn_number

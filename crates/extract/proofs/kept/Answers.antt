@@ -22,15 +22,18 @@ loop-i-preserved c =
     let f = member c.args.seen in
     let trace = c.args.trace.now in
     let i = c.loop-i.i in
-    elim c.if-stays.branch [ then-stays w ↦  (
-      w.n-is ∙ omega (arith, c.loop-i.invariant.0, kept_more f trace i (omega arith) (sym c.stays.ensures ∙ w.if-stays.true)),
-      omega (arith, w.n-is),
-      omega arith,
-    ) | else-stays w ↦  (
-      w.n-is ∙ c.loop-i.invariant.0 ∙ sym (kept_same f trace i (omega arith) (sym c.stays.ensures ∙ w.if-stays.false)),
-      omega (arith, w.n-is),
-      omega arith,
-    ) ]
+    elim c.if-stays.branch [
+      | then-stays w ↦ (
+        w.n-is ∙ omega (arith, c.loop-i.invariant.0, kept_more f trace i (omega arith) (sym c.stays.ensures ∙ w.if-stays.true)),
+        omega (arith, w.n-is),
+        omega arith,
+      )
+      | else-stays w ↦ (
+        w.n-is ∙ c.loop-i.invariant.0 ∙ sym (kept_same f trace i (omega arith) (sym c.stays.ensures ∙ w.if-stays.false)),
+        omega (arith, w.n-is),
+        omega arith,
+      )
+    ]
 
 pub returns : goal.returns
 returns c =

@@ -49,10 +49,13 @@ loop-c-preserved c =
     let f = seen_by_any c.args.p c.args.set in
     let k = c.loop-c.c in
     let small : k < 16 = c.loop-c-test.true in (
-      elim c.if-flows_to_any.branch [ then-flows_to_any w ↦ 
-          let mask : w.class_mask-seen.result ≡ 2 ^ k = w.class_mask-seen.ensures ∙ mask_is k small in
-          let more : set_of (k + 1) f ≡ set_of k f + 2 ^ k = set_more f k (sym c.flows_to_any.ensures ∙ w.if-flows_to_any.true) in
-          w.seen-is ∙ omega (arith, mask, more, c.loop-c.invariant.0) | else-flows_to_any w ↦  w.seen-is ∙ c.loop-c.invariant.0 ∙ sym (set_same f k (sym c.flows_to_any.ensures ∙ w.if-flows_to_any.false)) ],
+      elim c.if-flows_to_any.branch [
+        | then-flows_to_any w ↦
+            let mask : w.class_mask-seen.result ≡ 2 ^ k = w.class_mask-seen.ensures ∙ mask_is k small in
+            let more : set_of (k + 1) f ≡ set_of k f + 2 ^ k = set_more f k (sym c.flows_to_any.ensures ∙ w.if-flows_to_any.true) in
+            w.seen-is ∙ omega (arith, mask, more, c.loop-c.invariant.0)
+        | else-flows_to_any w ↦ w.seen-is ∙ c.loop-c.invariant.0 ∙ sym (set_same f k (sym c.flows_to_any.ensures ∙ w.if-flows_to_any.false))
+      ],
       omega arith,
     )
 

@@ -40,14 +40,14 @@ loop-i-preserved c =
     let at = sym c.has.ensures in
     let inv = c.loop-i.invariant in
     elim c.if-has.branch [
-      then-has+else-n-number w ↦
-        let up = count_yes (member s) i (at ∙ w.if-has.true) in (
-          w.n-is ∙ omega (arith, up),
-          missed_more (is_nth s k) 16 i inv.1 c.loop-i-test.true (and-fails-right (member s i) _ (ne_eqb (count (i + 1) (member s)) k (λ e. w.if-n-number.false (omega (arith, up, e))))),
-        )
+      | then-has+else-n-number w ↦
+          let up = count_yes (member s) i (at ∙ w.if-has.true) in (
+            w.n-is ∙ omega (arith, up),
+            missed_more (is_nth s k) 16 i inv.1 c.loop-i-test.true (and-fails-right (member s i) _ (ne_eqb (count (i + 1) (member s)) k (λ e. w.if-n-number.false (omega (arith, up, e))))),
+          )
       | else-has w ↦
-        let out = at ∙ w.if-has.false in
-        (w.n-is ∙ omega (arith, count_no (member s) i out), missed_more (is_nth s k) 16 i inv.1 c.loop-i-test.true (and-fails-left (member s i) _ out))
+          let out = at ∙ w.if-has.false in
+          (w.n-is ∙ omega (arith, count_no (member s) i out), missed_more (is_nth s k) 16 i inv.1 c.loop-i-test.true (and-fails-left (member s i) _ out))
     ]
 
 pub returns : goal.returns

@@ -21,7 +21,7 @@ loop-i-preserved c =
     let i = c.loop-i.i in
     let f = member c.args.set in (
       elim c.if-has.branch [
-        then-has w ↦ w.n-is ∙ omega (arith, count_yes f i (sym c.has.ensures ∙ w.if-has.true))
+        | then-has w ↦ w.n-is ∙ omega (arith, count_yes f i (sym c.has.ensures ∙ w.if-has.true))
         | else-has w ↦ w.n-is ∙ omega (arith, count_no f i (sym c.has.ensures ∙ w.if-has.false))
       ],
       omega arith,

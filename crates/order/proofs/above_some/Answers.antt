@@ -27,25 +27,28 @@ loop-k-preserved c =
     let set = c.args.set in
     let k = c.loop-k.k in
     let found = c.loop-k.found in
-    elim c.if-has.branch [ then-has w ↦ 
-    let inside = sym c.has.ensures ∙ w.if-has.true in (
-      rw w.found-is (or_lt 16 found w.above_set-found.result c.loop-k.invariant.0 (search rules)),
-      λ j l.
-          ap (λ (x : ℕ). member x j) w.found-is
-          ∙ member-or found w.above_set-found.result j
-          ∙ ap₂ ◌||◌ (c.loop-k.invariant.1 j l)
-          (ap (λ (x : ℕ). member x j) w.above_set-found.ensures ∙ member-above rows k j l ∙ sym (ap (λ (b : Bool). b && strictly_in rows k j) inside))
-          ∙ sym (some-step (over rows set j) k),
-      omega arith,
-    ) | else-has w ↦ 
-    let outside = sym c.has.ensures ∙ w.if-has.false in (
-      rw w.found-is c.loop-k.invariant.0,
-      λ j l.
-          ap (λ (x : ℕ). member x j) w.found-is
-          ∙ c.loop-k.invariant.1 j l
-          ∙ sym (some-step (over rows set j) k ∙ ap (λ (b : Bool). some k (over rows set j) || b && strictly_in rows k j) outside ∙ or-false _),
-      omega arith,
-    ) ]
+    elim c.if-has.branch [
+      | then-has w ↦
+          let inside = sym c.has.ensures ∙ w.if-has.true in (
+            rw w.found-is (or_lt 16 found w.above_set-found.result c.loop-k.invariant.0 (search rules)),
+            λ j l.
+                ap (λ (x : ℕ). member x j) w.found-is
+                ∙ member-or found w.above_set-found.result j
+                ∙ ap₂ ◌||◌ (c.loop-k.invariant.1 j l)
+                (ap (λ (x : ℕ). member x j) w.above_set-found.ensures ∙ member-above rows k j l ∙ sym (ap (λ (b : Bool). b && strictly_in rows k j) inside))
+                ∙ sym (some-step (over rows set j) k),
+            omega arith,
+          )
+      | else-has w ↦
+          let outside = sym c.has.ensures ∙ w.if-has.false in (
+            rw w.found-is c.loop-k.invariant.0,
+            λ j l.
+                ap (λ (x : ℕ). member x j) w.found-is
+                ∙ c.loop-k.invariant.1 j l
+                ∙ sym (some-step (over rows set j) k ∙ ap (λ (b : Bool). some k (over rows set j) || b && strictly_in rows k j) outside ∙ or-false _),
+            omega arith,
+          )
+    ]
 
 pub returns : goal.returns
 unfolding above_some

@@ -31,15 +31,18 @@ pub loop-i-preserved : goal.loop-i-preserved
 loop-i-preserved c =
     let a = c.args in
     let i = c.loop-i.i in
-    elim c.if-word_shown-ne0.branch [ then-word_shown-ne0 w ↦  (
-      w.n-is ∙ omega (arith, c.loop-i.invariant.0, size-two a.activates a.trace.now a.log.now 0 i (omega arith) (λ e. w.if-word_shown-ne0.true (c.word_shown.ensures ∙ e))),
-      omega (arith, w.n-is),
-      omega arith,
-    ) | else-word_shown-ne0 w ↦  (
-      w.n-is ∙ c.loop-i.invariant.0 ∙ sym (size_same a.activates a.trace.now a.log.now 0 i (omega arith) (sym c.word_shown.ensures ∙ w.if-word_shown-ne0.false)),
-      omega (arith, w.n-is),
-      omega arith,
-    ) ]
+    elim c.if-word_shown-ne0.branch [
+      | then-word_shown-ne0 w ↦ (
+        w.n-is ∙ omega (arith, c.loop-i.invariant.0, size-two a.activates a.trace.now a.log.now 0 i (omega arith) (λ e. w.if-word_shown-ne0.true (c.word_shown.ensures ∙ e))),
+        omega (arith, w.n-is),
+        omega arith,
+      )
+      | else-word_shown-ne0 w ↦ (
+        w.n-is ∙ c.loop-i.invariant.0 ∙ sym (size_same a.activates a.trace.now a.log.now 0 i (omega arith) (sym c.word_shown.ensures ∙ w.if-word_shown-ne0.false)),
+        omega (arith, w.n-is),
+        omega arith,
+      )
+    ]
 
 pub returns : goal.returns
 returns c =

@@ -81,9 +81,13 @@ returns-in-Offer c =
     let did = c.offer-status.ensures in
     let status = did.status (small-classes c.args.p (given (goal.at.returns-in-Offer c).Start) (ranged c.args.p (given (goal.at.returns-in-Offer c).Start) c.requires.ranges)) in
     let answers = c.answered-in-Offer.ensures ∙ ap (λ (m : Moment). answered_with m c.offer-status.result) c.nothing_known.ensures in
-    let queues = did.queues c.args.passed.now ∙ queued-by c.args.m.classes c.args.p.timing.ranks (given (goal.at.returns-in-Offer c).Start).queues _ _ _ status (offer-word c.args.word _ (told (goal.at.returns-in-Offer c).After-call_of-call _ c.in-Offer.is)) in record { answered = ap (left-by (queued (given (goal.at.returns-in-Offer c).Start) (queues_of c.offer-status.new.slots c.args.heads.now c.offer-status.new.lengths c.args.passed.now))) answers
+    let queues = did.queues c.args.passed.now ∙ queued-by c.args.m.classes c.args.p.timing.ranks (given (goal.at.returns-in-Offer c).Start).queues _ _ _ status (offer-word c.args.word _ (told (goal.at.returns-in-Offer c).After-call_of-call _ c.in-Offer.is)) in record {
+      answered = ap (left-by (queued (given (goal.at.returns-in-Offer c).Start) (queues_of c.offer-status.new.slots c.args.heads.now c.offer-status.new.lengths c.args.passed.now))) answers
           ∙ ap₂ (λ (k : ℕ) (q : Queues). record { state = queued (given (goal.at.returns-in-Offer c).Start) q; status = k; command = 0; response = 0; turn = 0 }) status queues
-          ∙ sym (called-offer c.args.p (given (goal.at.returns-in-Offer c).Start) c.args.word _ (told (goal.at.returns-in-Offer c).After-call_of-call _ c.in-Offer.is) ∙ ap offered (offer-is c.args.p (given (goal.at.returns-in-Offer c).Start) c.requires.ranges _)); next = stays_by (goal.at.returns-in-Offer c).Start c.answered-in-Offer.result 0 answers; until = nothing_known (bus_at c.args.p (right (goal.at.returns-in-Offer c).Start).state (right (goal.at.returns-in-Offer c).Start).state.turns) c.answered-in-Offer.result.moment.until (ap (λ (x : Called). x.moment.until) answers) }
+          ∙ sym (called-offer c.args.p (given (goal.at.returns-in-Offer c).Start) c.args.word _ (told (goal.at.returns-in-Offer c).After-call_of-call _ c.in-Offer.is) ∙ ap offered (offer-is c.args.p (given (goal.at.returns-in-Offer c).Start) c.requires.ranges _));
+      next = stays_by (goal.at.returns-in-Offer c).Start c.answered-in-Offer.result 0 answers;
+      until = nothing_known (bus_at c.args.p (right (goal.at.returns-in-Offer c).Start).state (right (goal.at.returns-in-Offer c).Start).state.turns) c.answered-in-Offer.result.moment.until (ap (λ (x : Called). x.moment.until) answers);
+    }
 
 pub returns-in-Malformed : goal.returns-in-Malformed
 returns-in-Malformed c =

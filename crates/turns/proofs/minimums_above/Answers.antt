@@ -29,11 +29,14 @@ loop-j-preserved c =
     let j = c.loop-j.j in
     let f = part c.args.rows c.args.minimums c.args.class in
     let fits : Fits w32 (get_or c.args.minimums j 0) = search rules in
-    elim c.if-strictly_in.branch [ then-strictly_in w ↦ 
-    let here : f j ≡ get_or c.args.minimums j 0 = rw (sym c.strictly_in.ensures ∙ w.if-strictly_in.true) in
-    (summed-more f 16 c.loop-j.total j c.loop-j.invariant.0 c.loop-j-test.true (omega (arith, here)), omega arith) | else-strictly_in w ↦ 
-    let none : f j ≡ 0 = rw (sym c.strictly_in.ensures ∙ w.if-strictly_in.false) in
-    (summed-more f 16 c.loop-j.total j c.loop-j.invariant.0 c.loop-j-test.true (omega (arith, none)), omega arith) ]
+    elim c.if-strictly_in.branch [
+      | then-strictly_in w ↦
+          let here : f j ≡ get_or c.args.minimums j 0 = rw (sym c.strictly_in.ensures ∙ w.if-strictly_in.true) in
+          (summed-more f 16 c.loop-j.total j c.loop-j.invariant.0 c.loop-j-test.true (omega (arith, here)), omega arith)
+      | else-strictly_in w ↦
+          let none : f j ≡ 0 = rw (sym c.strictly_in.ensures ∙ w.if-strictly_in.false) in
+          (summed-more f 16 c.loop-j.total j c.loop-j.invariant.0 c.loop-j-test.true (omega (arith, none)), omega arith)
+    ]
 
 pub returns : goal.returns
 unfolding minimums_above

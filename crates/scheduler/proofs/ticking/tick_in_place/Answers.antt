@@ -106,6 +106,7 @@ module _ (t n : ℕ) where
         turn = start.shown;
         state = record { cycle = t + 1; classes = n; queues = q; turns = start.turns; flight = f };
       }
+
   same-answers : {q r : Queues} → {x y : TurnStart} → {f g : Flight} → {k l i j : ℕ} → q ≡ r → x ≡ y → f ≡ g → k ≡ l → i ≡ j → made q x f k i ≡ made r y g l j
   same-answers {r = r} {x = x} {y = y} {f = f} {g = g} {k = k} {l = l} {i = i} a b c d e =
       ap₂ (λ (q : Queues) (z : TurnStart). made q z f k i) a b ∙ ap₂ (λ (h : Flight) (m : ℕ). made r y h m i) c d ∙ ap (made r y g l) e

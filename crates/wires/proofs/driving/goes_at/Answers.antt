@@ -87,10 +87,14 @@ returns-then-opens-now c =
     let inv = c.loop-k.invariant in
     let passes : (eqb k 0 || ltb a.passed 15) ≡ true =
     ⊎_elim (λ past. or_right (eqb k 0) (ltb a.passed 15) (lt-ltb a.passed 15 (inv.1 past))) (λ oldest. or_left (eqb k 0) (ltb a.passed 15) (eq-eqb k 0 (omega (arith, oldest)))) (lt-or-ge 0 k)
-    in record { first = λ g.
+    in record {
+      first = λ g.
           found_at _ a.length k (inv.0 g).0 (waits (goal.at.returns-then-opens-now c).After-opens_of-opens)
           (may-is a.timing a.last a.slots.now a.banks.now a.class a.head a.length a.passed g a.cycle k (waits (goal.at.returns-then-opens-now c).After-opens_of-opens)
-          ∙ and_both passes (le-leb (opens-at (goal.at.returns-then-opens-now c).Start k) (a.cycle + 1) (come (goal.at.returns-then-opens-now c).After-opens_of-opens c.if-opens-now.true))); until = λ g t early. absurd (not-suc-le-zero early); passes = λ waits past. inv.1 past }
+          ∙ and_both passes (le-leb (opens-at (goal.at.returns-then-opens-now c).Start k) (a.cycle + 1) (come (goal.at.returns-then-opens-now c).After-opens_of-opens c.if-opens-now.true)));
+      until = λ g t early. absurd (not-suc-le-zero early);
+      passes = λ waits past. inv.1 past;
+    }
 
 -- so many have passed the oldest that none but it may go
 pub returns-then-passed-ge-MOST_PASSED : goal.returns-then-passed-ge-MOST_PASSED

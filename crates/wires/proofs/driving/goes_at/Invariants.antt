@@ -19,18 +19,24 @@ module _ (timing : Timing) (last : ℕ) (slots banks : List ℕ) (class head len
   -- the ticks, counted from 1, at which the last activate of all lets a read and a write go, and at which the k-th request may go
   abbrev pub read : ℕ
   read = opens_at last (kind_gap timing last 0)
+
   abbrev pub write : ℕ
   write = opens_at last (kind_gap timing last 1)
+
   abbrev pub opens : ℕ → ℕ
   opens k = opens_by timing last read write banks (get_or slots (place class head k) 0)
+
   abbrev pub may : ℕ → ℕ → Bool
   may t = may_go_by timing t last slots banks class head passed
+
   module _ (given : Scannable slots class head length) where
     pub may-is : (t k : ℕ) → k < length → may t k ≡ ((eqb k 0 || ltb passed 15) && leb (opens k) (t + 1))
     may-is t k waits = ap (λ (b : Bool). (eqb k 0 || ltb passed 15) && b) (gaps-open timing last banks (get_or slots (place class head k) 0) t (given.kind k waits))
+
     -- before its tick it may not
     pub shut : (t k : ℕ) → k < length → t + 1 < opens k → may t k ≡ false
     shut t k waits early = may-is t k waits ∙ and-fails-right (eqb k 0 || ltb passed 15) (leb (opens k) (t + 1)) (lt-leb (opens k) (t + 1) early)
+
     -- and before the earlier of the two ticks none may
     pub both-shut : (t k : ℕ) → k < length → t + 1 < min read write → may t k ≡ false
     both-shut t k waits early =
@@ -39,9 +45,11 @@ module _ (timing : Timing) (last : ℕ) (slots banks : List ℕ) (class head len
         (λ e. rw e (omega (arith, early)))
         (λ e. rw e (omega (arith, early)))
         (either (eqb (kind_of (get_or slots (place class head k) 0)) 0)))
+
   -- past an oldest that so many have passed none may
   pub held : (t k : ℕ) → 15 ≤ passed → 0 < k → may t k ≡ false
   held t k many past = and-fails-left (eqb k 0 || ltb passed 15) _ (ap₂ ◌||◌ (ne_eqb k 0 (λ e. lt_irrefl 0 (subst (λ (n : ℕ). 0 < n) e past))) (le-ltb passed 15 many))
+
   -- where none may, the place is the queue's length
   pub none : (t : ℕ) → ((k : ℕ) → k < length → may t k ≡ false) → length ≡ first length (may t)
   none t fails = sym (first-none (may t) length (false-unless (some length (may t)) (λ e. let it = some-found (may t) length e in not-both it.2 (fails it.0 it.1))))

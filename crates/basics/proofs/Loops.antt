@@ -3,7 +3,7 @@
 -- Assumes nothing.
 use mathlib.Core.Path.{◌≡◌, sym, ap, ◌∙◌, subst}
 use mathlib.Core.Logic.{⊎_elim}
-use mathlib.Core.Bool.{Bool, true, false, not}
+use mathlib.Core.Bool.{Bool, true, false}
 use mathlib.Core.List.{List}
 use Prim.Native.Nat.{ℕ, ◌+◌, ◌≤◌, ◌<◌, zero-le}
 use native.Mathlib.Nat.{lt_irrefl, not-suc-le-zero}
@@ -12,7 +12,6 @@ use native.Mathlib.Omega.{arith}
 use lib.ListN.{length, get_or, set, replicate, length-set, length-replicate}
 use lib.Seq.{ext_get_or, get_or-set_same, get_or-set_other}
 use Rattle.basics.specs.Below.{every, some, first, sum, list_of}
-use Rattle.basics.proofs.Truth.{not-true, not-not}
 use Rattle.basics.proofs.Below.{at-or-below, every-none, every_more, every-fails, some-none, some_more, some_at, first-is, first-none, sum-none, sum_more, length-list_of, get_or-list_of}
 
 -- the bound is reached

@@ -1,6 +1,5 @@
 -- `flight::activate_at` meets its contract: it is the definition.
 use mathlib.Core.Path.{refl}
-use borrow.Author.Rules.{rules}
 use Rattle.flight.specs.Flight.{activate_at}
 use Rattle.flight.proofs.activate_at.Goals as goal
 

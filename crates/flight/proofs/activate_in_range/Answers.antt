@@ -1,5 +1,4 @@
 -- `flight::activate_in_range` meets its contract: it is the definition.
-use borrow.Author.Rules.{rules}
 use Rattle.flight.specs.Flight.{activate_in_range}
 use Rattle.flight.proofs.activate_in_range.Goals as goal
 

@@ -1,11 +1,5 @@
 -- `flight::banks_in_range` meets its contract. The invariant: the test passes at every number below `bank`.
-use mathlib.Core.Bool.{Bool}
-use mathlib.Core.List.{List}
-use Prim.Native.Nat.{ℕ, ◌-◌}
-use borrow.Author.Rules.{rules}
-use lib.ListN.{get_or}
-use Rattle.basics.proofs.Loops.{Passed, passed_none, passed-all, goes-on, stops}
-use Rattle.flight.specs.Flight.{activate_in_range}
+use Rattle.basics.proofs.Loops.{passed_none, passed-all, goes-on, stops}
 use Rattle.flight.proofs.banks_in_range.Goals as goal
 
 pub loop-bank-init : goal.loop-bank-init

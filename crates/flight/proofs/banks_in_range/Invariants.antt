@@ -2,9 +2,8 @@
 use mathlib.Core.Bool.{Bool}
 use mathlib.Core.List.{List}
 use Prim.Native.Nat.{ℕ, ◌-◌}
-use borrow.Author.Rules.{rules}
 use lib.ListN.{get_or}
-use Rattle.basics.proofs.Loops.{Passed, passed_none, passed-all, goes-on, stops}
+use Rattle.basics.proofs.Loops.{Passed}
 use Rattle.flight.specs.Flight.{activate_in_range}
 use Rattle.flight.proofs.banks_in_range.Given as goal
 

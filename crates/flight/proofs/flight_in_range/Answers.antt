@@ -1,5 +1,4 @@
 -- `flight::flight_in_range` meets its contract: the definition, with what the callees promise.
-use borrow.Author.Rules.{rules}
 use Rattle.flight.specs.Flight.{flight_in_range}
 use Rattle.flight.proofs.flight_in_range.Goals as goal
 

@@ -2,12 +2,11 @@
 use mathlib.Core.Path.{◌≡◌, ap, ◌∙◌}
 use mathlib.Core.Bool.{Bool, ◌&&◌, ◌||◌}
 use mathlib.Core.List.{List}
-use Prim.Native.Nat.{ℕ, ◌+◌, ◌-◌, ◌%◌}
+use Prim.Native.Nat.{ℕ, ◌+◌, ◌%◌}
 use native.Mathlib.Omega.{arith}
-use borrow.Author.Rules.{rules}
 use lib.Dec.{ltb, eqb}
 use lib.ListN.{get_or}
-use Rattle.basics.proofs.Loops.{Passed, passed_none, passed-all, goes-on, stops}
+use Rattle.basics.proofs.Loops.{passed_none, passed-all, goes-on, stops}
 use Rattle.flight.specs.Flight.{pending_in_range, due_at}
 use Rattle.requests.specs.Word.{sound_word}
 use Rattle.flight.proofs.pending_in_range.Invariants.{test}

@@ -1,14 +1,10 @@
 -- `flight::pending_in_range` meets its contract. The invariant: the test passes at every number below `after`.
-use mathlib.Core.Path.{◌≡◌, ap, ◌∙◌}
 use mathlib.Core.Bool.{Bool, ◌&&◌, ◌||◌}
 use mathlib.Core.List.{List}
-use Prim.Native.Nat.{ℕ, ◌+◌, ◌-◌, ◌%◌}
-use native.Mathlib.Omega.{arith}
-use borrow.Author.Rules.{rules}
+use Prim.Native.Nat.{ℕ, ◌+◌, ◌-◌}
 use lib.Dec.{ltb, eqb}
-use lib.ListN.{get_or}
-use Rattle.basics.proofs.Loops.{Passed, passed_none, passed-all, goes-on, stops}
-use Rattle.flight.specs.Flight.{pending_in_range, due_at}
+use Rattle.basics.proofs.Loops.{Passed}
+use Rattle.flight.specs.Flight.{due_at}
 use Rattle.requests.specs.Word.{sound_word}
 use Rattle.flight.proofs.pending_in_range.Given as goal
 

@@ -1,6 +1,5 @@
 -- `flight::take_due` meets its contract: it is the definition.
 use mathlib.Core.Path.{refl}
-use borrow.Author.Rules.{rules}
 use Rattle.flight.specs.Flight.{due_at, sent_at}
 use Rattle.flight.proofs.take_due.Goals as goal
 

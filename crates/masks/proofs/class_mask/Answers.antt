@@ -1,5 +1,4 @@
 -- `masks::class_mask` meets its contract: the code's table is `class_masks`, and each of its entries is what the formula gives.
-use borrow.Author.Rules.{rules}
 use borrow.Author.Tests.{le-ltb}
 use Rattle.masks.specs.Mask.{class_mask}
 use Rattle.masks.specs.Tables.{class_masks}

@@ -1,6 +1,5 @@
 -- `masks::has` meets its contract: the test is the definition itself, and past 15 a 16-bit number has no bits.
 use mathlib.Core.Path.{refl, sym}
-use borrow.Author.Rules.{rules}
 use Rattle.masks.specs.Mask.{member}
 use Rattle.masks.proofs.Masks.{member-over}
 use Rattle.masks.proofs.has.Goals as goal

@@ -1,17 +1,13 @@
 -- `masks::nth` meets its contract. The invariant: the count is that of the members below `i`, and none of them has the number.
-use mathlib.Core.Path.{◌≡◌, sym, ◌∙◌}
-use mathlib.Core.Logic.{⊎_elim}
-use mathlib.Core.Bool.{Bool, ◌&&◌}
-use Prim.Native.Nat.{ℕ, ◌+◌, ◌-◌}
+use mathlib.Core.Path.{sym, ◌∙◌}
+use Prim.Native.Nat.{◌+◌}
 use native.Mathlib.Omega.{arith}
-use borrow.Author.Rules.{rules}
-use lib.Dec.{eqb}
 use Rattle.basics.specs.Below.{count}
 use Rattle.masks.specs.Mask.{member, nth}
 use borrow.Author.Tests.{eq-eqb, ne_eqb}
 use Rattle.basics.proofs.Truth.{and_both, and-fails-left, and-fails-right}
 use Rattle.basics.proofs.Below.{count_none, count_yes, count_no, count-le}
-use Rattle.basics.proofs.Loops.{Missed, missed-none, missed_more, missed-all, found_at}
+use Rattle.basics.proofs.Loops.{missed-none, missed_more, missed-all, found_at}
 use Rattle.masks.proofs.nth.Invariants.{is_nth}
 use Rattle.masks.proofs.nth.Goals as goal
 use Rattle.masks.proofs.nth.Goals.{then-has+else-n-number, else-has}

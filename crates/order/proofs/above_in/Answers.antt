@@ -1,6 +1,5 @@
 -- `order::above_in` meets its contract: it is the size of the set.
 use mathlib.Core.Path.{ap, ◌∙◌}
-use borrow.Author.Rules.{rules}
 use Rattle.masks.specs.Mask.{size}
 use Rattle.order.proofs.Orders.{above-size}
 use Rattle.order.proofs.above_in.Goals as goal

@@ -1,6 +1,5 @@
 -- `order::above_set` meets its contract: the row without its own bit.
 use mathlib.Core.Path.{ap₂, ◌∙◌}
-use borrow.Author.Rules.{rules}
 use Rattle.masks.specs.Mask.{difference}
 use Rattle.order.proofs.Orders.{above-is}
 use Rattle.order.proofs.above_set.Goals as goal

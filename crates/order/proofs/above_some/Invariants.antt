@@ -1,19 +1,11 @@
 -- `order::above_some` meets its contract. The invariant: what is found so far are the classes above some class of the set below `k`.
-use mathlib.Core.Path.{◌≡◌, sym, ap, ap₂, ◌∙◌}
-use mathlib.Core.Logic.{⊎_elim}
-use mathlib.Core.Bool.{Bool, ◌&&◌, ◌||◌}
+use mathlib.Core.Path.{◌≡◌}
+use mathlib.Core.Bool.{Bool, ◌&&◌}
 use mathlib.Core.List.{List}
 use Prim.Native.Nat.{ℕ, ◌-◌, ◌^◌, ◌≤◌, ◌<◌}
-use native.Mathlib.Omega.{arith}
-use borrow.Author.Rules.{rules}
-use lib.Bits.{or_lt}
 use Rattle.basics.specs.Below.{some}
 use Rattle.masks.specs.Mask.{member}
-use Rattle.order.specs.Order.{strictly_in, above_some}
-use Rattle.basics.proofs.Truth.{or-false}
-use Rattle.basics.proofs.Below.{some-none, some-step}
-use Rattle.masks.proofs.Masks.{member-zero, member-or, is-set_of}
-use Rattle.order.proofs.Orders.{member-above}
+use Rattle.order.specs.Order.{strictly_in}
 use Rattle.order.proofs.above_some.Given as goal
 
 -- class h is in the set, and j is strictly above it

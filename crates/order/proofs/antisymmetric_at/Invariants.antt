@@ -1,10 +1,8 @@
 -- `order::antisymmetric_at` meets its contract. The invariant: the test passes at every number below `j`.
-use mathlib.Core.Path.{sym, ◌∙◌, ap, ap₂}
 use mathlib.Core.Bool.{not, ◌&&◌}
 use Prim.Native.Nat.{◌-◌}
-use borrow.Author.Rules.{rules}
-use Rattle.order.specs.Order.{flows_in, strictly_in, antisymmetric_at}
-use Rattle.basics.proofs.Loops.{Passed, passed_none, passed-more, passed-all, passed-not}
+use Rattle.order.specs.Order.{flows_in, strictly_in}
+use Rattle.basics.proofs.Loops.{Passed}
 use Rattle.order.proofs.antisymmetric_at.Given as goal
 
 abbrev pub invariant-loop-j : goal.invariant-loop-j

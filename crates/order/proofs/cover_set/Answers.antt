@@ -1,6 +1,5 @@
 -- `order::cover_set` meets its contract: what is above the class and above nothing that is above it.
 use mathlib.Core.Path.{ap, ap₂, ◌∙◌}
-use borrow.Author.Rules.{rules}
 use Rattle.masks.specs.Mask.{difference}
 use Rattle.order.specs.Order.{above_some}
 use Rattle.order.proofs.Orders.{covers_are}

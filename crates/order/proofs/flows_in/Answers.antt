@@ -1,5 +1,4 @@
 -- `order::flows_in` meets its contract: it is a member of the row.
-use borrow.Author.Rules.{rules}
 use Rattle.order.specs.Order.{flows_in}
 use Rattle.order.proofs.flows_in.Goals as goal
 

@@ -1,7 +1,6 @@
 -- `order::has_least` meets its contract: there is a least class exactly if the first such is a class.
 use mathlib.Core.Path.{ap, ◌∙◌}
 use Prim.Native.Nat.{ℕ}
-use borrow.Author.Rules.{rules}
 use lib.Dec.{ltb}
 use Rattle.order.specs.Order.{least_at, least_in, has_least}
 use Rattle.basics.proofs.Below.{first_some}

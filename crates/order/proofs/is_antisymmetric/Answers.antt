@@ -1,8 +1,6 @@
 -- `order::is_antisymmetric` meets its contract. The invariant: the test passes at every number below `i`.
-use Prim.Native.Nat.{◌-◌}
-use borrow.Author.Rules.{rules}
-use Rattle.order.specs.Order.{antisymmetric_at, antisymmetric}
-use Rattle.basics.proofs.Loops.{Passed, passed_none, passed-all, goes-on, stops}
+use Rattle.order.specs.Order.{antisymmetric}
+use Rattle.basics.proofs.Loops.{passed_none, passed-all, goes-on, stops}
 use Rattle.order.proofs.is_antisymmetric.Goals as goal
 
 pub loop-i-init : goal.loop-i-init

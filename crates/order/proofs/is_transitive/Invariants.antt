@@ -1,8 +1,7 @@
 -- `order::is_transitive` meets its contract. The invariant: the test passes at every number below `i`.
 use Prim.Native.Nat.{◌-◌}
-use borrow.Author.Rules.{rules}
-use Rattle.order.specs.Order.{transitive_at, transitive}
-use Rattle.basics.proofs.Loops.{Passed, passed_none, passed-all, goes-on, stops}
+use Rattle.order.specs.Order.{transitive_at}
+use Rattle.basics.proofs.Loops.{Passed}
 use Rattle.order.proofs.is_transitive.Given as goal
 
 abbrev pub invariant-loop-i : goal.invariant-loop-i

@@ -1,5 +1,4 @@
 -- `order::least_at` meets its contract: the definition, with what the callees promise.
-use borrow.Author.Rules.{rules}
 use Rattle.order.specs.Order.{least_at}
 use Rattle.order.proofs.least_at.Goals as goal
 

@@ -1,9 +1,7 @@
 -- `order::least_in` meets its contract. The invariant: no class below `i` is the least.
 use mathlib.Core.Path.{sym, ◌∙◌}
-use Prim.Native.Nat.{◌-◌}
-use borrow.Author.Rules.{rules}
-use Rattle.order.specs.Order.{least_at, least_in}
-use Rattle.basics.proofs.Loops.{Missed, missed-none, missed_more, missed-all, found_at}
+use Rattle.order.specs.Order.{least_in}
+use Rattle.basics.proofs.Loops.{missed-none, missed_more, missed-all, found_at}
 use Rattle.order.proofs.least_in.Goals as goal
 
 pub loop-i-init : goal.loop-i-init

@@ -1,12 +1,9 @@
 -- `order::longest_in` meets its contract. The invariant: `risen` are the classes at the end of the chains of `steps` steps, and each smaller number of steps has some.
-use mathlib.Core.Path.{◌≡◌, sym, ap, ◌∙◌}
+use mathlib.Core.Path.{◌≡◌}
 use Prim.Native.Nat.{◌-◌}
-use borrow.Author.Rules.{rules}
-use borrow.Author.Tests.{eq-eqb, ne_eqb}
 use lib.Dec.{eqb}
-use Rattle.order.specs.Order.{above_some, risen_to, longest_in}
-use Rattle.basics.proofs.Loops.{Missed, missed-none, missed_more, missed-all, found_at}
-use Rattle.order.proofs.Chains.{risen-none, risen-more}
+use Rattle.order.specs.Order.{risen_to}
+use Rattle.basics.proofs.Loops.{Missed}
 use Rattle.order.proofs.longest_in.Given as goal
 
 abbrev pub invariant-loop-steps : goal.invariant-loop-steps

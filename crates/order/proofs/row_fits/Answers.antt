@@ -1,6 +1,5 @@
 -- `order::row_fits` meets its contract: each branch is the side of the definition that its test picks.
 use mathlib.Core.Path.{sym, ◌∙◌}
-use borrow.Author.Rules.{rules}
 use Rattle.order.specs.Order.{row_fits}
 use Rattle.order.proofs.row_fits.Goals as goal
 

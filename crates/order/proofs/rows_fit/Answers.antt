@@ -1,9 +1,6 @@
 -- `order::rows_fit` meets its contract. The invariant: the test passes at every number below `i`.
-use Prim.Native.Nat.{◌-◌}
-use borrow.Author.Rules.{rules}
-use lib.ListN.{get_or}
-use Rattle.order.specs.Order.{row_fits, rows_fit}
-use Rattle.basics.proofs.Loops.{Passed, passed_none, passed-all, goes-on, stops}
+use Rattle.order.specs.Order.{rows_fit}
+use Rattle.basics.proofs.Loops.{passed_none, passed-all, goes-on, stops}
 use Rattle.order.proofs.rows_fit.Goals as goal
 
 pub loop-i-init : goal.loop-i-init

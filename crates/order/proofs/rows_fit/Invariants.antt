@@ -1,9 +1,8 @@
 -- `order::rows_fit` meets its contract. The invariant: the test passes at every number below `i`.
 use Prim.Native.Nat.{◌-◌}
-use borrow.Author.Rules.{rules}
 use lib.ListN.{get_or}
-use Rattle.order.specs.Order.{row_fits, rows_fit}
-use Rattle.basics.proofs.Loops.{Passed, passed_none, passed-all, goes-on, stops}
+use Rattle.order.specs.Order.{row_fits}
+use Rattle.basics.proofs.Loops.{Passed}
 use Rattle.order.proofs.rows_fit.Given as goal
 
 abbrev pub invariant-loop-i : goal.invariant-loop-i

@@ -1,5 +1,4 @@
 -- `order::strictly_in` meets its contract: the definition, with what `flows_in` promises.
-use borrow.Author.Rules.{rules}
 use Rattle.order.specs.Order.{strictly_in}
 use Rattle.order.proofs.strictly_in.Goals as goal
 

@@ -1,15 +1,10 @@
 -- `order::transitive_at` meets its contract. The invariant: the test passes at every number below `j`, for the row that `row_of` gave.
 use mathlib.Core.Path.{ap, ◌∙◌}
-use mathlib.Core.Bool.{Bool, not, ◌||◌}
-use mathlib.Core.List.{List}
-use Prim.Native.Nat.{ℕ, ◌-◌}
-use borrow.Author.Rules.{rules}
-use lib.ListN.{get_or}
+use Prim.Native.Nat.{ℕ}
 use Rattle.basics.specs.Below.{every}
-use Rattle.masks.specs.Mask.{member, includes}
 use Rattle.order.specs.Order.{flows_in, transitive_at}
 use Rattle.basics.proofs.Truth.{implies-asked}
-use Rattle.basics.proofs.Loops.{Passed, passed_none, passed-more, passed-all, passed-not}
+use Rattle.basics.proofs.Loops.{passed_none, passed-more, passed-all, passed-not}
 use Rattle.order.proofs.transitive_at.Invariants.{step}
 use Rattle.order.proofs.transitive_at.Goals as goal
 

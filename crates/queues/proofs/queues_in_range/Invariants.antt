@@ -1,13 +1,9 @@
 -- `queues::queues_in_range` meets its contract. The invariant: the test passes at every number below `class`.
-use mathlib.Core.Path.{◌≡◌, ap}
-use mathlib.Core.Bool.{Bool, ◌&&◌}
+use mathlib.Core.Bool.{Bool}
 use mathlib.Core.List.{List}
 use Prim.Native.Nat.{ℕ, ◌-◌}
-use borrow.Author.Rules.{rules}
-use lib.Dec.{leb}
-use lib.ListN.{get_or}
-use Rattle.basics.proofs.Loops.{Passed, passed_none, passed-all, goes-on, stops}
-use Rattle.queues.specs.Waiting.{queues_of, queue_in_range, head_of, length_of, passed_of}
+use Rattle.basics.proofs.Loops.{Passed}
+use Rattle.queues.specs.Waiting.{queues_of, queue_in_range}
 use Rattle.queues.proofs.queues_in_range.Given as goal
 
 -- the test at a number

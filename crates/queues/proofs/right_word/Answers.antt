@@ -1,5 +1,4 @@
 -- `queues::right_word` meets its contract: the definition, with what the callees promise.
-use borrow.Author.Rules.{rules}
 use Rattle.queues.specs.Waiting.{right_word}
 use Rattle.queues.proofs.right_word.Goals as goal
 

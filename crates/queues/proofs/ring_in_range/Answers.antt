@@ -1,5 +1,4 @@
 -- `queues::ring_in_range` meets its contract: each early return is a test of the definition that fails.
-use borrow.Author.Rules.{rules}
 use borrow.Author.Tests.{le-leb, lt-leb, lt-ltb, le-ltb}
 use Rattle.queues.specs.Waiting.{ring_in_range}
 use Rattle.queues.proofs.ring_in_range.Goals as goal

@@ -1,15 +1,11 @@
 -- `queues::words_in_range` meets its contract. The invariant: the test passes at every number below `k`.
-use mathlib.Core.Path.{◌≡◌, ap, ◌∙◌}
 use mathlib.Core.Bool.{Bool, ◌||◌}
 use mathlib.Core.List.{List}
 use Prim.Native.Nat.{ℕ, ◌-◌}
-use native.Mathlib.Omega.{arith}
-use borrow.Author.Rules.{rules}
 use lib.Dec.{leb}
 use lib.ListN.{get_or}
-use Rattle.basics.proofs.Loops.{Passed, passed_none, passed-all, goes-on, stops}
+use Rattle.basics.proofs.Loops.{Passed}
 use Rattle.queues.specs.Waiting.{right_word, place}
-use Rattle.queues.proofs.Waiting.{of-class}
 use Rattle.queues.proofs.words_in_range.Given as goal
 
 -- the test at a number

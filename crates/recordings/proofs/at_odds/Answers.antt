@@ -4,7 +4,6 @@ use native.Mathlib.Omega.{arith}
 use borrow.Author.Tests.{le-leb, lt-leb}
 use Rattle.recordings.specs.Recording.{cycle_at}
 use Rattle.recordings.proofs.Recordings.{due-read}
-use borrow.Author.Rules.{rules}
 use Rattle.recordings.proofs.at_odds.Goals as goal
 
 pub overflow_add-wires : goal.overflow_add-wires

@@ -5,7 +5,6 @@ use native.Mathlib.Omega.{arith}
 use Rattle.recordings.specs.Recording.{events_in, rises, due_fits, soundness, status_of}
 use Rattle.recordings.proofs.Recordings.{sound-both, wires-three, cores-two}
 use Rattle.recordings.proofs.Matching.{alone-unsound, alone-sound, odds, wires-longer, cores-longer, none_longer}
-use borrow.Author.Rules.{rules}
 use Rattle.recordings.proofs.first_alone.Goals as goal
 use Rattle.recordings.proofs.first_alone.Goals.{In-Sound}
 

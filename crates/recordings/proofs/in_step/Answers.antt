@@ -1,12 +1,10 @@
 -- `recordings::in_step` meets its contract. The invariant: up to event k each activate is the partner of the response with its number.
 use mathlib.Core.Bool.{not}
-use Prim.Native.Nat.{◌-◌}
 use native.Mathlib.Omega.{arith}
-use Rattle.basics.proofs.Loops.{Missed, missed-none, missed_more, missed-all, found_at}
+use Rattle.basics.proofs.Loops.{missed-none, missed_more, missed-all, found_at}
 use Rattle.recordings.specs.Match.{partners}
 use Rattle.recordings.proofs.Recordings.{due-read}
 use Rattle.recordings.proofs.Matching.{apart-asked}
-use borrow.Author.Rules.{rules}
 use Rattle.recordings.proofs.in_step.Goals as goal
 
 pub loop-k-init : goal.loop-k-init

@@ -8,7 +8,6 @@ use Rattle.basics.proofs.Truth.{not-true, not-not}
 use Rattle.requests.proofs.Trace.{four-times}
 use Rattle.recordings.specs.Logged.{record_status}
 use Rattle.recordings.proofs.Logged.{ticks-few, same_size, refused-17, refused-12, refused-16, not_refused, refused, taken, out_written}
-use borrow.Author.Rules.{rules}
 use Rattle.recordings.proofs.make.Goals as goal
 use Rattle.recordings.proofs.make.Goals.{Else-log-trace}
 

@@ -1,5 +1,5 @@
 -- `recordings::put` meets its contract: an event has two numbers, and where no word is shown there is none.
-use mathlib.Core.Path.{◌≡◌, refl, sym, ap}
+use mathlib.Core.Path.{◌≡◌, sym, ap}
 use mathlib.Core.List.{[]}
 use Prim.Native.Nat.{ℕ}
 use native.Mathlib.Nat.{add-zero}
@@ -8,7 +8,6 @@ use native.Mathlib.Numerals.{add-one}
 use lib.ListN.{length, set, length-set}
 use Rattle.recordings.specs.Logged.{event_at}
 use Rattle.recordings.proofs.Logged.{no-event, an-event}
-use borrow.Author.Rules.{rules}
 use Rattle.recordings.proofs.put.Goals as goal
 
 pub returns-then-word-eq0 : goal.returns-then-word-eq0

@@ -4,10 +4,9 @@ use Prim.Native.Nat.{ℕ, suc, ◌-◌, ◌<◌, ◌≤◌}
 use native.Mathlib.Omega.{arith}
 use borrow.Author.Tests.{lt-ltb, le-ltb}
 use lib.Dec.{ltb}
-use Rattle.basics.proofs.Loops.{Passed, passed_none, passed-more, passed-all, passed-not}
+use Rattle.basics.proofs.Loops.{passed_none, passed-more, passed-all, passed-not}
 use Rattle.recordings.specs.Recording.{events_in, cycle_at, rises}
 use Rattle.recordings.proofs.Recordings.{cycle-next}
-use borrow.Author.Rules.{rules}
 use Rattle.recordings.proofs.rises.Goals as goal
 
 pub loop-i-init : goal.loop-i-init

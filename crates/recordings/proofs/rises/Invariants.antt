@@ -1,13 +1,8 @@
 -- `recordings::rises` meets its contract. The invariant: up to event i each cycle is above the one before.
-use mathlib.Core.Path.{sym, subst}
-use Prim.Native.Nat.{ℕ, suc, ◌-◌, ◌<◌, ◌≤◌}
-use native.Mathlib.Omega.{arith}
-use borrow.Author.Tests.{lt-ltb, le-ltb}
+use Prim.Native.Nat.{suc, ◌-◌}
 use lib.Dec.{ltb}
-use Rattle.basics.proofs.Loops.{Passed, passed_none, passed-more, passed-all, passed-not}
-use Rattle.recordings.specs.Recording.{events_in, cycle_at, rises}
-use Rattle.recordings.proofs.Recordings.{cycle-next}
-use borrow.Author.Rules.{rules}
+use Rattle.basics.proofs.Loops.{Passed}
+use Rattle.recordings.specs.Recording.{cycle_at}
 use Rattle.recordings.proofs.rises.Given as goal
 
 abbrev pub invariant-loop-i : goal.invariant-loop-i

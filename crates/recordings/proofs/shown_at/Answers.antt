@@ -2,7 +2,6 @@
 use mathlib.Core.Path.{refl}
 use Prim.Native.Nat.{◌/◌, ◌%◌}
 use borrow.Author.Tests.{eq-eqb, ne_eqb}
-use Rattle.basics.proofs.Truth.{not-true, not-not}
 use Rattle.recordings.specs.Logged.{shown_at}
 use Rattle.recordings.proofs.shown_at.Goals as goal
 

@@ -1,14 +1,8 @@
 -- `recordings::size` meets its contract. The invariant: `n` is how many numbers the recording of the first `i` trace numbers has.
-use mathlib.Core.Path.{◌≡◌, refl, sym, ap, ◌∙◌}
-use mathlib.Core.Logic.{⊎_elim}
-use mathlib.Core.List.{List}
-use Prim.Native.Nat.{ℕ, ◌*◌, ◌-◌, ◌≤◌}
-use native.Mathlib.Omega.{arith}
+use mathlib.Core.Path.{◌≡◌}
+use Prim.Native.Nat.{◌*◌, ◌-◌, ◌≤◌}
 use lib.ListN.{length, take}
-use lib.Seq.{take_all}
 use Rattle.recordings.specs.Logged.{recording_of}
-use Rattle.recordings.proofs.Logged.{size-two, size_same}
-use borrow.Author.Rules.{rules}
 use Rattle.recordings.proofs.size.Given as goal
 
 abbrev pub invariant-loop-i : goal.invariant-loop-i

@@ -1,7 +1,6 @@
 -- `recordings::tick_in` meets its contract: a line that is no tick moves nothing.
 use mathlib.Core.Path.{refl, sym, ◌∙◌}
 use Rattle.recordings.specs.Logged.{tick_in}
-use borrow.Author.Rules.{rules}
 use Rattle.recordings.proofs.tick_in.Goals as goal
 
 pub returns-then-is_tick : goal.returns-then-is_tick

@@ -1,13 +1,8 @@
 -- `recordings::ticks` meets its contract. The invariant: `n` is how many of the first `i` trace numbers are ticks that were made.
-use mathlib.Core.Path.{◌≡◌, refl, ap, ◌∙◌}
-use mathlib.Core.List.{List}
-use Prim.Native.Nat.{ℕ, ◌*◌, ◌-◌, ◌≤◌}
-use native.Mathlib.Omega.{arith}
-use lib.ListN.{length, take, get_or}
-use lib.Seq.{take_all}
+use mathlib.Core.Path.{◌≡◌}
+use Prim.Native.Nat.{◌-◌, ◌≤◌}
+use lib.ListN.{length, take}
 use Rattle.recordings.specs.Logged.{ticks_in}
-use Rattle.recordings.proofs.Logged.{tick-most, ticks-more}
-use borrow.Author.Rules.{rules}
 use Rattle.recordings.proofs.ticks.Given as goal
 
 abbrev pub invariant-loop-i : goal.invariant-loop-i

@@ -5,7 +5,6 @@ use native.Mathlib.Omega.{arith}
 use lib.ListN.{length}
 use Rattle.recordings.specs.Match.{rest_of, unmatched, rest_at}
 use Rattle.recordings.proofs.Matching.{rest-is, activate-within, response-within}
-use borrow.Author.Rules.{rules}
 use Rattle.recordings.proofs.unmatched.Goals as goal
 use Rattle.recordings.proofs.unmatched.Goals.{In-Activate, In-Response}
 

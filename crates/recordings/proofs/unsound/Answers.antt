@@ -4,7 +4,6 @@ use mathlib.Core.Bool.{true}
 use Rattle.basics.proofs.Truth.{not-true, not-not}
 use Rattle.recordings.specs.Recording.{wires_sound}
 use Rattle.recordings.proofs.Recordings.{wires-asked, cores-asked, wires-unsound, cores-unsound, both-sound}
-use borrow.Author.Rules.{rules}
 use Rattle.recordings.proofs.unsound.Goals as goal
 use Rattle.recordings.proofs.unsound.Goals.{Else-wires-rises}
 

@@ -1,7 +1,6 @@
 -- `recordings::word_shown` meets its contract: a line that is no tick shows nothing.
 use mathlib.Core.Path.{refl, sym, ◌∙◌}
 use Rattle.recordings.specs.Logged.{word_shown}
-use borrow.Author.Rules.{rules}
 use Rattle.recordings.proofs.word_shown.Goals as goal
 
 pub returns-then-is_tick : goal.returns-then-is_tick

@@ -1,13 +1,9 @@
 -- `recordings::write` meets its contract. The invariant: written is the recording of the first `i` trace numbers, and `t` is the cycle after them.
-use mathlib.Core.Path.{◌≡◌, refl, ap, ap₂, ◌∙◌}
-use mathlib.Core.List.{List, ◌++◌}
-use Prim.Native.Nat.{ℕ, ◌+◌, ◌*◌, ◌-◌, ◌≤◌}
-use native.Mathlib.Omega.{arith}
-use lib.ListN.{length, take, drop, get_or}
-use lib.Seq.{take_all, sets}
-use Rattle.recordings.specs.Logged.{word_shown, event_at, ticks_in, recording_of, written}
-use Rattle.recordings.proofs.Logged.{ticks-more, ticks-part, event_of, event-fits, event-more}
-use borrow.Author.Rules.{rules}
+use mathlib.Core.Path.{◌≡◌}
+use mathlib.Core.List.{◌++◌}
+use Prim.Native.Nat.{◌+◌, ◌-◌, ◌≤◌}
+use lib.ListN.{length, take, drop}
+use Rattle.recordings.specs.Logged.{ticks_in, recording_of}
 use Rattle.recordings.proofs.write.Given as goal
 
 abbrev pub invariant-loop-i : goal.invariant-loop-i

@@ -1,6 +1,5 @@
 -- `requests::call_of` meets its contract: each return is the side of the definition that its tests pick.
 use mathlib.Core.Path.{sym, ap, ◌∙◌}
-use borrow.Author.Rules.{rules}
 use borrow.Author.Tests.{eq-eqb, ne_eqb}
 use Rattle.requests.proofs.Trace.{told-tick, told-offer, told-malformed}
 use Rattle.requests.specs.declared.Call.TheVariants.{Offer}

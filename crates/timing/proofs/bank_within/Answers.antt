@@ -1,5 +1,4 @@
 -- `timing::bank_within` meets its contract: the definition, with what `is_within` promises.
-use borrow.Author.Rules.{rules}
 use Rattle.timing.specs.Timing.{bank_within}
 use Rattle.timing.proofs.bank_within.Goals as goal
 

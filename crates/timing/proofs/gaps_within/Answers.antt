@@ -1,5 +1,4 @@
 -- `timing::gaps_within` meets its contract: the definition, with what `is_within` promises.
-use borrow.Author.Rules.{rules}
 use Rattle.timing.specs.Timing.{gaps_within}
 use Rattle.timing.proofs.gaps_within.Goals as goal
 

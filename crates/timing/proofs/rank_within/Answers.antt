@@ -1,5 +1,4 @@
 -- `timing::rank_within` meets its contract: the definition, with what `is_within` promises.
-use borrow.Author.Rules.{rules}
 use Rattle.timing.specs.Timing.{rank_within}
 use Rattle.timing.proofs.rank_within.Goals as goal
 

@@ -1,5 +1,4 @@
 -- `timing::timing_sound` meets its contract: the definition, with what the callees promise.
-use borrow.Author.Rules.{rules}
 use Rattle.timing.specs.Timing.{timing_sound}
 use Rattle.timing.proofs.timing_sound.Goals as goal
 

@@ -3,10 +3,8 @@ use mathlib.Core.Path.{◌≡◌, sym, ap, ◌∙◌}
 use mathlib.Core.Bool.{true}
 use Prim.Native.Nat.{ℕ, ◌-◌}
 use native.Mathlib.Omega.{arith}
-use borrow.Author.Rules.{rules}
 use Rattle.order.specs.Order.{is_class_in}
 use Rattle.turns.specs.Turns.{cap_in}
-use Rattle.basics.proofs.Truth.{not-true, not-not}
 use Rattle.turns.proofs.cap_in.Goals as goal
 use Rattle.turns.proofs.cap_in.Goals.{Else-not-is_class}
 

@@ -1,13 +1,12 @@
 -- `turns::home_at` meets its contract. The invariant: the rest is the place less the minimums of the classes below `class`, and none of those has used up its minimum only past the
 -- place.
-use mathlib.Core.Path.{◌≡◌}
-use Prim.Native.Nat.{◌+◌, ◌-◌}
+use Prim.Native.Nat.{◌+◌}
 use native.Mathlib.Omega.{arith}
 use borrow.Author.Rules.{rules}
 use borrow.Author.Tests.{lt-ltb, le-ltb}
 use Rattle.turns.specs.Turns.{minimums_below, home_at}
-use Rattle.basics.proofs.Loops.{Missed, missed-none, missed_more, missed-all, found_at}
-use Rattle.turns.proofs.Homes.{past, below_none, below_more}
+use Rattle.basics.proofs.Loops.{missed-none, missed_more, missed-all, found_at}
+use Rattle.turns.proofs.Homes.{below_none, below_more}
 use Rattle.turns.proofs.home_at.Goals as goal
 
 pub loop-class-init : goal.loop-class-init

@@ -2,12 +2,9 @@
 -- place.
 use mathlib.Core.Path.{◌≡◌}
 use Prim.Native.Nat.{◌+◌, ◌-◌}
-use native.Mathlib.Omega.{arith}
-use borrow.Author.Rules.{rules}
-use borrow.Author.Tests.{lt-ltb, le-ltb}
-use Rattle.turns.specs.Turns.{minimums_below, home_at}
-use Rattle.basics.proofs.Loops.{Missed, missed-none, missed_more, missed-all, found_at}
-use Rattle.turns.proofs.Homes.{past, below_none, below_more}
+use Rattle.turns.specs.Turns.{minimums_below}
+use Rattle.basics.proofs.Loops.{Missed}
+use Rattle.turns.proofs.Homes.{past}
 use Rattle.turns.proofs.home_at.Given as goal
 
 abbrev pub invariant-loop-class : goal.invariant-loop-class

@@ -1,17 +1,12 @@
 -- `turns::minimums_above` meets its contract. The invariant: the total is the sum below `j`, and each number added to it has 32 bits, so it does not wrap.
 use mathlib.Core.Path.{◌≡◌, sym, ◌∙◌}
-use mathlib.Core.Logic.{⊎_elim}
-use mathlib.Core.Bool.{cond}
-use mathlib.Core.List.{List}
-use Prim.Native.Nat.{ℕ, ◌-◌, ◌*◌, ◌≤◌}
 use native.Mathlib.Omega.{arith}
 use borrow.Author.Rules.{rules}
 use mir.Syntax.{w32}
 use mir.Val.{Fits}
 use lib.ListN.{get_or}
-use Rattle.order.specs.Order.{strictly_in}
 use Rattle.turns.specs.Turns.{minimums_above}
-use Rattle.basics.proofs.Loops.{Summed, summed-none, summed-more, summed-all}
+use Rattle.basics.proofs.Loops.{summed-none, summed-more, summed-all}
 use Rattle.turns.proofs.minimums_above.Invariants.{part}
 use Rattle.turns.proofs.minimums_above.Goals as goal
 use Rattle.turns.proofs.minimums_above.Goals.{then-strictly_in, else-strictly_in}

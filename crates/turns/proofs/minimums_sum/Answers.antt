@@ -1,13 +1,12 @@
 -- `turns::minimums_sum` meets its contract. The invariant: the total is the sum below `i`, and each number added to it has 32 bits, so it does not wrap.
 use mathlib.Core.Path.{refl}
-use Prim.Native.Nat.{◌-◌, ◌*◌, ◌≤◌}
 use native.Mathlib.Omega.{arith}
 use borrow.Author.Rules.{rules}
 use mir.Syntax.{w32}
 use mir.Val.{Fits}
 use lib.ListN.{get_or}
 use Rattle.turns.specs.Turns.{minimums_sum, minimums_below}
-use Rattle.basics.proofs.Loops.{Summed, summed-none, summed-more, summed-all}
+use Rattle.basics.proofs.Loops.{summed-none, summed-more, summed-all}
 use Rattle.turns.proofs.minimums_sum.Goals as goal
 
 pub loop-i-init : goal.loop-i-init

@@ -1,5 +1,4 @@
 -- `turns::turns_sound` meets its contract: the definition, with what `minimums_sum` promises.
-use borrow.Author.Rules.{rules}
 use Rattle.turns.specs.Turns.{turns_sound}
 use Rattle.turns.proofs.turns_sound.Goals as goal
 

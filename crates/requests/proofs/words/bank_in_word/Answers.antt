@@ -1,6 +1,5 @@
 -- `requests::words::bank_in_word` meets its contract: each branch is the side of the definition that its test picks.
 use native.Mathlib.Omega.{arith}
-use borrow.Author.Rules.{rules}
 use borrow.Author.Tests.{le-leb, lt-leb}
 use Rattle.requests.specs.Word.{bank_in_word}
 use Rattle.requests.proofs.words.bank_in_word.Goals as goal

@@ -1,6 +1,5 @@
 -- `requests::words::bank_place` meets its contract: the definition, with what the fields' functions promise; a rank has two bits.
 use native.Mathlib.Omega.{arith}
-use borrow.Author.Rules.{rules}
 use Rattle.requests.proofs.Word.{rank-small}
 use Rattle.requests.specs.Word.{bank_place}
 use Rattle.requests.proofs.words.bank_place.Goals as goal

@@ -1,5 +1,4 @@
 -- `requests::words::class_fits` meets its contract: the definition, with what the callee promises.
-use borrow.Author.Rules.{rules}
 use Rattle.requests.specs.Word.{class_fits}
 use Rattle.requests.proofs.words.class_fits.Goals as goal
 

@@ -3,7 +3,6 @@ use mathlib.Core.Path.{◌≡◌, ◌∙◌, ap, sym, subst}
 use mathlib.Core.Bool.{true}
 use Prim.Native.Nat.{ℕ}
 use native.Mathlib.Omega.{arith}
-use borrow.Author.Rules.{rules}
 use Rattle.requests.specs.Word.{is_offer, column_number, command_number}
 use Rattle.requests.proofs.Word.{is-offer, offer-fits}
 use Rattle.requests.proofs.words.command_number.Goals as goal

@@ -1,5 +1,4 @@
 -- `requests::words::request_of` meets its contract: the definition, with what each field's function promises.
-use borrow.Author.Rules.{rules}
 use Rattle.requests.specs.Word.{request_of}
 use Rattle.requests.proofs.words.request_of.Goals as goal
 

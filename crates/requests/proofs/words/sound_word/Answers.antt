@@ -1,5 +1,4 @@
 -- `requests::words::sound_word` meets its contract: the definition, with what the callees promise.
-use borrow.Author.Rules.{rules}
 use Rattle.requests.specs.Word.{sound_word}
 use Rattle.requests.proofs.words.sound_word.Goals as goal
 

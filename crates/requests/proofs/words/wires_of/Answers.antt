@@ -1,6 +1,5 @@
 -- `requests::words::wires_of` meets its contract: each return is the side of the definition that its tests pick.
 use mathlib.Core.Path.{sym, ap, ◌∙◌}
-use borrow.Author.Rules.{rules}
 use borrow.Author.Tests.{eq-eqb, ne_eqb}
 use Rattle.basics.proofs.Truth.{on-true, on-false}
 use Rattle.requests.specs.Word.{is_offer, request_of, wires_of}

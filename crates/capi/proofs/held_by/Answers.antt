@@ -1,7 +1,6 @@
 -- `capi::held_by` meets its contract: each arm is a case of the definition.
 use mathlib.Core.Path.{sym, ap}
 use Rattle.capi.specs.Matches.{held_by}
-use borrow.Author.Rules.{rules}
 use Rattle.capi.proofs.held_by.Goals as goal
 
 pub returns-in-NoEvent : goal.returns-in-NoEvent

@@ -1,7 +1,6 @@
 -- `capi::place_of` meets its contract: each arm is a case of the definition.
 use mathlib.Core.Path.{sym, ap}
 use Rattle.capi.specs.Matches.{place_of}
-use borrow.Author.Rules.{rules}
 use Rattle.capi.proofs.place_of.Goals as goal
 
 pub returns-in-NoEvent : goal.returns-in-NoEvent

@@ -1,7 +1,6 @@
 -- `capi::status_of` meets its contract: each arm is a case of the definition.
 use mathlib.Core.Path.{sym, ap}
 use Rattle.recordings.specs.Recording.{status_of}
-use borrow.Author.Rules.{rules}
 use Rattle.capi.proofs.status_of.Goals as goal
 
 pub returns-in-Sound : goal.returns-in-Sound

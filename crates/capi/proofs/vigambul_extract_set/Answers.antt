@@ -2,7 +2,6 @@
 use mathlib.Core.Path.{◌≡◌, sym, ap, ◌∙◌}
 use mathlib.Core.List.{List}
 use Prim.Native.Nat.{ℕ}
-use borrow.Author.Rules.{rules}
 use Rattle.policy.specs.declared.Policy.{Policy}
 use Rattle.file.specs.declared.Reading.{Reading}
 use Rattle.extract.specs.Extract.{extract_set, out_after_set}

@@ -3,7 +3,6 @@ use mathlib.Core.Path.{ap, ap₂, ◌∙◌}
 use lib.ListN.{length}
 use Rattle.recordings.specs.Recording.{status_of}
 use Rattle.capi.specs.Matches.{which_of, place_of, match_status, match_which, match_at}
-use borrow.Author.Rules.{rules}
 use Rattle.capi.proofs.vigambul_match.Goals as goal
 
 pub returns : goal.returns

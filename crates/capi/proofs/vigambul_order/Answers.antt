@@ -5,9 +5,7 @@ use Rattle.writer.specs.declared.Written.{Written}
 use Rattle.policy.specs.declared.Policy.{Policy}
 use Rattle.orders.specs.declared.Fetched.{Fetched}
 use Rattle.capi.specs.SmallOrders.{there}
-use Rattle.basics.proofs.Truth.{not-true, not-not}
 use Rattle.capi.proofs.Sides.{not_there, is-there}
-use borrow.Author.Rules.{rules}
 use Rattle.capi.proofs.vigambul_order.Goals as goal
 
 pub returns-then-not-fetched-p : goal.returns-then-not-fetched-p

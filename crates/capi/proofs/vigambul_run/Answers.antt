@@ -1,6 +1,5 @@
 -- `capi::vigambul_run` meets its contract: the file is refused, or the run is made of its policy and its fresh state.
 use mathlib.Core.Path.{◌≡◌, sym, ap, ◌∙◌}
-use borrow.Author.Rules.{rules}
 use Rattle.policy.specs.declared.Policy.{Policy}
 use Rattle.file.specs.declared.Reading.{Reading}
 use Rattle.state.specs.Fresh.{fresh}

@@ -1,6 +1,5 @@
 -- `capi::vigambul_walk_bound` meets its contract: the file is refused, or the bound is that of its policy.
 use mathlib.Core.Path.{◌≡◌, sym, ap, ◌∙◌}
-use borrow.Author.Rules.{rules}
 use Rattle.policy.specs.Policy.{bound_for}
 use Rattle.policy.specs.declared.Policy.{Policy}
 use Rattle.policy.specs.declared.Bound.{Bound}

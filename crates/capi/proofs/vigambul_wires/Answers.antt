@@ -2,7 +2,6 @@
 use mathlib.Core.Path.{ap}
 use Rattle.recordings.specs.Logged.{recorded}
 use Rattle.recordings.specs.declared.Recorded.{Recorded}
-use borrow.Author.Rules.{rules}
 use Rattle.capi.proofs.vigambul_wires.Goals as goal
 
 pub returns : goal.returns

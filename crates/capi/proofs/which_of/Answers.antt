@@ -2,7 +2,6 @@
 use mathlib.Core.Path.{sym, ap, ◌∙◌}
 use Rattle.recordings.specs.declared.Soundness.{Soundness}
 use Rattle.capi.specs.Matches.{which_of}
-use borrow.Author.Rules.{rules}
 use Rattle.capi.proofs.which_of.Goals as goal
 
 pub returns-in-Sound : goal.returns-in-Sound

@@ -1,7 +1,6 @@
 -- `decisions::bank_gap` meets its contract: a kind is 0, or else 1.
 use mathlib.Core.Path.{◌≡◌}
 use native.Mathlib.Omega.{arith}
-use borrow.Author.Rules.{rules}
 use Rattle.decisions.proofs.bank_gap.Goals as goal
 
 pub returns-then-kind-eq0 : goal.returns-then-kind-eq0

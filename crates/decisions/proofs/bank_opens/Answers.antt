@@ -1,7 +1,6 @@
 -- `decisions::bank_opens` meets its contract: the gap picked is that of the bank's last kind.
 use mathlib.Core.Path.{ap, sym, ◌∙◌, subst}
 use Prim.Native.Nat.{ℕ, ◌<◌}
-use borrow.Author.Rules.{rules}
 use lib.ListN.{get_or}
 use Rattle.rules.specs.Wire.{opens_at}
 use Rattle.rules.proofs.Wire.{kind-small}

@@ -2,7 +2,6 @@
 use mathlib.Core.Path.{◌≡◌}
 use Prim.Native.Nat.{◌+◌, ◌*◌}
 use native.Mathlib.Omega.{arith}
-use borrow.Author.Rules.{rules}
 use Rattle.decisions.proofs.kind_gap.Goals as goal
 
 pub returns-then-later-eq0 : goal.returns-then-later-eq0

@@ -1,7 +1,6 @@
 -- `decisions::moved` meets its contract: each branch is the side of the definition that its tests pick.
 use Prim.Native.Nat.{◌≤◌, ◌<◌}
 use native.Mathlib.Omega.{arith}
-use borrow.Author.Rules.{rules}
 use borrow.Author.Tests.{eq-eqb, ne_eqb, lt-ltb, le-ltb}
 use Rattle.masks.specs.Mask.{size}
 use Rattle.rules.specs.Traversal.{moved}

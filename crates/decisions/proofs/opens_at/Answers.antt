@@ -1,5 +1,4 @@
 -- `decisions::opens_at` meets its contract: the two sides of the definition.
-use borrow.Author.Rules.{rules}
 use borrow.Author.Tests.{eq-eqb, ne_eqb}
 use Rattle.rules.specs.Wire.{opens_at}
 use Rattle.decisions.proofs.opens_at.Goals as goal

@@ -1,6 +1,5 @@
 -- `decisions::rank_opens` meets its contract: each branch is the side of the definition that its test picks.
 use mathlib.Core.Path.{sym, ◌∙◌}
-use borrow.Author.Rules.{rules}
 use borrow.Author.Tests.{eq-eqb, ne_eqb}
 use Rattle.flight.specs.Flight.{activate_rank}
 use Rattle.rules.specs.Wire.{rank_opens}

@@ -1,5 +1,4 @@
 -- `decisions::turn_word` meets its contract: each branch is the side of the definition that its test picks.
-use borrow.Author.Rules.{rules}
 use Rattle.rules.specs.Step.{turn_word}
 use Rattle.decisions.proofs.turn_word.Goals as goal
 

@@ -1,11 +1,7 @@
 -- `extract::are_classes` meets its contract. The invariant: every member below `c` is a class of the policy.
-use mathlib.Core.Bool.{not, ◌||◌}
-use Prim.Native.Nat.{◌-◌}
-use borrow.Author.Rules.{rules}
-use Rattle.masks.specs.Mask.{member}
 use Rattle.policy.specs.Policy.{is_class}
 use Rattle.basics.proofs.Truth.{implies-asked}
-use Rattle.basics.proofs.Loops.{Passed, passed_none, passed-more, passed-all, passed-not}
+use Rattle.basics.proofs.Loops.{passed_none, passed-more, passed-all, passed-not}
 use Rattle.extract.specs.Extract.{are_classes}
 use Rattle.extract.proofs.are_classes.Goals as goal
 

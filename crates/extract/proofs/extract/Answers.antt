@@ -2,7 +2,6 @@
 use mathlib.Core.Path.{ap, ap₂, ◌∙◌}
 use mathlib.Core.Bool.{Bool}
 use Prim.Native.Nat.{ℕ}
-use borrow.Author.Rules.{rules}
 use Rattle.basics.specs.Below.{set_of}
 use Rattle.masks.specs.Mask.{member, class_mask}
 use Rattle.policy.specs.Policy.{is_class}

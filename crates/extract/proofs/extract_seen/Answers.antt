@@ -4,7 +4,6 @@ use mathlib.Core.Bool.{true}
 use Prim.Native.Nat.{◌*◌}
 use native.Mathlib.Omega.{arith}
 use borrow.Author.Tests.{eqb-true}
-use borrow.Author.Rules.{rules}
 use lib.ListN.{length}
 use Rattle.masks.specs.Mask.{member}
 use Rattle.policy.specs.Policy.{in_range}

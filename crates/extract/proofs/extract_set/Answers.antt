@@ -2,7 +2,6 @@
 use mathlib.Core.Path.{ap, ap₂, ◌∙◌}
 use mathlib.Core.Bool.{Bool}
 use Prim.Native.Nat.{ℕ}
-use borrow.Author.Rules.{rules}
 use Rattle.basics.specs.Below.{set_of}
 use Rattle.masks.specs.Mask.{member}
 use Rattle.extract.specs.Seen.{seen_by_any}

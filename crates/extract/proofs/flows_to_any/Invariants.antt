@@ -1,12 +1,9 @@
 -- `extract::flows_to_any` meets its contract. The invariant: the class may flow to no member below `l`.
-use mathlib.Core.Path.{sym, ◌∙◌, ap₂}
 use mathlib.Core.Bool.{◌&&◌}
 use Prim.Native.Nat.{◌-◌}
-use borrow.Author.Rules.{rules}
 use Rattle.masks.specs.Mask.{member}
 use Rattle.policy.specs.Policy.{flows}
-use Rattle.basics.proofs.Loops.{Missed, missed-none, missed_more, none_passes, one_passes}
-use Rattle.extract.specs.Seen.{seen_by_any}
+use Rattle.basics.proofs.Loops.{Missed}
 use Rattle.extract.proofs.flows_to_any.Given as goal
 
 abbrev pub invariant-loop-l : goal.invariant-loop-l

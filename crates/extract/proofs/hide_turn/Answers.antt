@@ -2,7 +2,6 @@
 use mathlib.Core.Path.{sym, ◌∙◌}
 use borrow.Author.Tests.{eq-eqb, ne_eqb}
 use Prim.Native.Nat.{◌%◌}
-use borrow.Author.Rules.{rules}
 use Rattle.extract.specs.Extract.{owner_seen, hide_turn}
 use Rattle.extract.proofs.hide_turn.Goals as goal
 

@@ -1,6 +1,5 @@
 -- `extract::hide_word` meets its contract: each return is the side of the definition that its test picks.
 use mathlib.Core.Path.{◌≡◌, sym, ap, ◌∙◌}
-use borrow.Author.Rules.{rules}
 use Rattle.masks.specs.Mask.{member}
 use Rattle.requests.specs.Word.{class_of}
 use Rattle.extract.specs.Extract.{hide_word}

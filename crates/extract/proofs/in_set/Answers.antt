@@ -1,6 +1,5 @@
 -- `extract::in_set` meets its contract: the test is the definition itself, and past 31 a 32-bit number has no bits.
 use mathlib.Core.Path.{refl, sym}
-use borrow.Author.Rules.{rules}
 use Rattle.masks.specs.Mask.{member}
 use Rattle.masks.proofs.Masks.{member-over}
 use Rattle.extract.proofs.in_set.Goals as goal

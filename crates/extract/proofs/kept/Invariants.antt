@@ -1,15 +1,9 @@
 -- `extract::kept` meets its contract. The invariant: `n` is how many of the first `i` numbers stay.
-use mathlib.Core.Path.{◌≡◌, refl, sym, ap, ◌∙◌}
-use mathlib.Core.List.{List}
-use mathlib.Core.Logic.{⊎_elim}
-use Prim.Native.Nat.{ℕ, ◌-◌, ◌≤◌}
-use native.Mathlib.Omega.{arith}
-use borrow.Author.Rules.{rules}
+use mathlib.Core.Path.{◌≡◌}
+use Prim.Native.Nat.{◌-◌, ◌≤◌}
 use lib.ListN.{length, take}
-use lib.Seq.{take_all}
 use Rattle.masks.specs.Mask.{member}
 use Rattle.extract.specs.Seen.{staying}
-use Rattle.extract.proofs.Grown.{kept_more, kept_same}
 use Rattle.extract.proofs.kept.Given as goal
 
 abbrev pub invariant-loop-i : goal.invariant-loop-i

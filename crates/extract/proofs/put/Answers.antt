@@ -1,6 +1,5 @@
 -- `extract::put` meets its contract: its four stores are a run.
 use native.Mathlib.Omega.{arith}
-use borrow.Author.Rules.{rules}
 use lib.ListN.{length-set}
 use Rattle.basics.proofs.Stores.{four}
 use Rattle.extract.proofs.put.Goals as goal

@@ -2,7 +2,6 @@
 use mathlib.Core.Path.{ap, ◌∙◌}
 use mathlib.Core.List.{List}
 use Prim.Native.Nat.{ℕ}
-use borrow.Author.Rules.{rules}
 use lib.Seq.{sets}
 use Rattle.masks.specs.Mask.{member}
 use Rattle.extract.proofs.Grown.{tick-line, offer-line}

@@ -1,6 +1,5 @@
 -- `extract::stays` meets its contract, case by case of what the trace number is.
 use mathlib.Core.Path.{sym, ap, ◌∙◌}
-use borrow.Author.Rules.{rules}
 use Rattle.masks.specs.Mask.{member}
 use Rattle.extract.specs.Seen.{call_stays, stays}
 use Rattle.extract.proofs.stays.Goals as goal

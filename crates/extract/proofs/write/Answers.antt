@@ -1,9 +1,8 @@
 -- `extract::write` meets its contract. The invariant: the extract of the first `i` calls stands at the start of `out`, up to `at`, and what is past it is as it was.
 use mathlib.Core.Path.{◌≡◌, refl, ap, ◌∙◌}
 use mathlib.Core.List.{List, ◌++◌}
-use Prim.Native.Nat.{ℕ, ◌-◌, ◌≤◌}
+use Prim.Native.Nat.{ℕ}
 use native.Mathlib.Omega.{arith}
-use borrow.Author.Rules.{rules}
 use lib.ListN.{length, take, drop}
 use lib.Seq.{take_all}
 use Rattle.masks.specs.Mask.{member}

@@ -1,14 +1,10 @@
 -- `extract::write` meets its contract. The invariant: the extract of the first `i` calls stands at the start of `out`, up to `at`, and what is past it is as it was.
-use mathlib.Core.Path.{◌≡◌, refl, ap, ◌∙◌}
-use mathlib.Core.List.{List, ◌++◌}
-use Prim.Native.Nat.{ℕ, ◌-◌, ◌≤◌}
-use native.Mathlib.Omega.{arith}
-use borrow.Author.Rules.{rules}
+use mathlib.Core.Path.{◌≡◌}
+use mathlib.Core.List.{◌++◌}
+use Prim.Native.Nat.{◌-◌, ◌≤◌}
 use lib.ListN.{length, take, drop}
-use lib.Seq.{take_all}
 use Rattle.masks.specs.Mask.{member}
 use Rattle.extract.specs.Extract.{extract_of}
-use Rattle.extract.proofs.Grown.{line-fits, line-more}
 use Rattle.extract.proofs.write.Given as goal
 
 abbrev pub invariant-loop-i : goal.invariant-loop-i

@@ -2,7 +2,6 @@
 -- ---- places
 use mathlib.Core.Path.{◌≡◌, refl, sym, ap, ap₂, ◌∙◌, subst}
 use Prim.Native.Nat.{ℕ}
-use borrow.Author.Rules.{rules}
 use borrow.Author.Tests.{lt-ltb, le-ltb}
 use Rattle.requests.specs.Sizes.{last_cycle}
 use Rattle.requests.specs.Word.{command_number}

@@ -1,17 +1,14 @@
 -- `scheduler::calls` meets its contract: after i turns of the loop the state and the log are those after the first i words, and the state is in range.
 use mathlib.Core.Path.{◌≡◌, refl, sym, ap, ◌∙◌, subst}
-use mathlib.Core.Bool.{Bool, true}
+use mathlib.Core.Bool.{true}
 use mathlib.Core.List.{List, ◌++◌}
-use Prim.Native.Nat.{ℕ, ◌+◌, ◌-◌, ◌*◌, ◌≤◌, zero-le}
+use Prim.Native.Nat.{ℕ, ◌+◌, ◌*◌, ◌≤◌, zero-le}
 use native.Mathlib.Omega.{arith}
-use borrow.Author.Rules.{rules}
 use lib.ListN.{length, get_or, set, take, drop, length-set}
 use lib.Seq.{take_all}
-use Rattle.policy.specs.declared.Policy.{Policy}
 use Rattle.state.specs.Range.{in_range}
 use Rattle.rules.specs.Calls.{Answer, answer_to, state_after, log_of}
-use Rattle.scheduler.specs.InPlace.{state_of, NoneYet, Working}
-use Rattle.scheduler.specs.declared.ticking.Moment.{Moment}
+use Rattle.scheduler.specs.InPlace.{state_of, NoneYet}
 use Rattle.state.specs.declared.State.{State}
 use Rattle.rules.proofs.Calls.{written, answered-in-range, state-more, log-more}
 use Rattle.scheduler.proofs.calls.Invariants.{numbers}

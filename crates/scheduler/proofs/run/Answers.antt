@@ -3,10 +3,8 @@ use mathlib.Core.Path.{◌≡◌, sym, ap, ◌∙◌}
 use mathlib.Core.Bool.{true, false}
 use Prim.Native.Nat.{◌*◌}
 use native.Mathlib.Omega.{arith}
-use borrow.Author.Rules.{rules}
 use borrow.Author.Tests.{le-leb, lt-leb}
 use lib.ListN.{length}
-use Rattle.basics.proofs.Truth.{not-true, not-not}
 use Rattle.state.specs.Range.{in_range}
 use Rattle.rules.specs.Run.{has_room}
 use Rattle.rules.proofs.Run.{ran, by-range, by-room, by-calls}

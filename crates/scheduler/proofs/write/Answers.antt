@@ -1,6 +1,5 @@
 -- `scheduler::write` meets its contract: each store is inside the slice, whose length no store changes.
 use native.Mathlib.Omega.{arith}
-use borrow.Author.Rules.{rules}
 use lib.ListN.{set, length-set}
 use Prim.Native.Nat.{◌+◌}
 use Rattle.scheduler.proofs.write.Goals as goal

@@ -1,5 +1,4 @@
 -- `state::counts_in_range` meets its contract: the definition, with what the callee promises.
-use borrow.Author.Rules.{rules}
 use Rattle.policy.specs.Policy.{is_class}
 use Rattle.state.specs.Range.{counts_in_range}
 use Rattle.state.proofs.counts_in_range.Goals as goal

@@ -1,8 +1,7 @@
 -- `state::fresh` meets its contract: each return is the side of the definition that its test picks.
 use mathlib.Core.Path.{sym, ap, ◌∙◌}
-use borrow.Author.Rules.{rules}
 use Rattle.policy.specs.Policy.{in_range}
-use Rattle.basics.proofs.Truth.{not-true, not-not, on-true, on-false}
+use Rattle.basics.proofs.Truth.{on-true, on-false}
 use Rattle.state.specs.Fresh.{zeros, fresh_state, zero_state, fresh}
 use Rattle.state.specs.declared.State.{State}
 use Rattle.state.specs.declared.Made.{Made}

@@ -1,5 +1,4 @@
 -- `state::in_range` meets its contract: the definition, with what the callees promise.
-use borrow.Author.Rules.{rules}
 use Rattle.state.specs.Range.{in_range}
 use Rattle.state.proofs.in_range.Goals as goal
 

@@ -1,5 +1,4 @@
 -- `state::state_at_start` meets its contract: the definition, with what the callees promise.
-use borrow.Author.Rules.{rules}
 use Rattle.state.specs.Fresh.{zeros, state_at_start}
 use Rattle.state.proofs.state_at_start.Goals as goal
 

@@ -5,7 +5,7 @@ use borrow.Author.Rules.{rules}
 use borrow.Author.Tests.{eq-eqb}
 use lib.ListN.{length}
 use Rattle.policy.specs.Policy.{covers_of, cover_count, cap}
-use Rattle.basics.proofs.Truth.{and_both, not-true, not-not}
+use Rattle.basics.proofs.Truth.{and_both}
 use Rattle.state.specs.Range.{shaped, turns_in_range, state_in_range}
 use Rattle.state.proofs.state_in_range.Goals as goal
 use Rattle.state.proofs.state_in_range.Goals.{Start}

@@ -1,13 +1,10 @@
 -- `state::turns_in_range` meets its contract. The invariant: the test passes at every number below `class`.
 use mathlib.Core.Path.{ap}
-use mathlib.Core.Bool.{Bool, ◌&&◌}
-use mathlib.Core.List.{List}
-use Prim.Native.Nat.{ℕ, ◌-◌}
-use borrow.Author.Rules.{rules}
+use mathlib.Core.Bool.{◌&&◌}
+use Prim.Native.Nat.{ℕ}
 use lib.Dec.{leb}
 use lib.ListN.{get_or}
-use Rattle.basics.proofs.Loops.{Passed, passed_none, passed-all, goes-on, stops}
-use Rattle.masks.specs.Mask.{size}
+use Rattle.basics.proofs.Loops.{passed_none, passed-all, goes-on, stops}
 use Rattle.state.proofs.turns_in_range.Goals as goal
 
 pub loop-class-init : goal.loop-class-init

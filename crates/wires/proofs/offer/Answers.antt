@@ -1,6 +1,5 @@
 -- `wires::offer` meets its contract: each return has the number of the first test that fails, and only an offer that none refuses is stored.
-use Rattle.std.proofs.Common.{◌≡◌, ◌<◌, true, sym, refl, ◌∙◌, arith, rules, le-ltb, lt-ltb}
-use Rattle.basics.proofs.Truth.{not-true, not-not}
+use Rattle.std.proofs.Common.{◌≡◌, ◌<◌, true, sym, refl, ◌∙◌, arith, le-ltb, lt-ltb}
 use Rattle.order.specs.Laws.{SmallClasses}
 use Rattle.requests.specs.Word.{class_fits, bank_kind_rank_fit}
 use Rattle.rules.specs.Queue.{offer_status}

@@ -1,6 +1,5 @@
 -- `scheduler::ticking::moment_of` meets its contract: the least class is the policy's, and a turn is not 0 cycles long.
 use native.Mathlib.Omega.{arith}
-use borrow.Author.Rules.{rules}
 use Rattle.policy.specs.Policy.{least}
 use Rattle.policy.proofs.Laws.{policy-laws}
 use Rattle.scheduler.proofs.ticking.moment_of.Goals as goal

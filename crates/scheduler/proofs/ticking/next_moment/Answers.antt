@@ -1,5 +1,4 @@
 -- `scheduler::ticking::next_moment` meets its contract: it is the definition.
-use borrow.Author.Rules.{rules}
 use Rattle.scheduler.proofs.ticking.next_moment.Goals as goal
 
 pub returns : goal.returns

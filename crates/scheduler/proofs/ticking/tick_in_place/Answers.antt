@@ -5,7 +5,6 @@ use mathlib.Core.Logic.{⊎_elim}
 use mathlib.Core.Bool.{Bool, cond}
 use mathlib.Core.List.{List}
 use Prim.Native.Nat.{ℕ, ◌+◌, ◌%◌, ◌<◌}
-use borrow.Author.Rules.{rules}
 use lib.Dec.{eqb}
 use Rattle.basics.proofs.Truth.{either, on-false}
 use Rattle.policy.proofs.Laws.{policy-laws}

@@ -2,9 +2,8 @@
 -- cover, and a cover has fewer above it. That the bound of the definition is never met is `enough`.
 use mathlib.Core.Path.{◌≡◌, sym, ap, ◌∙◌, subst}
 use mathlib.Core.Bool.{true, false}
-use Prim.Native.Nat.{ℕ, ◌+◌, ◌*◌, ◌≤◌, ◌<◌}
+use Prim.Native.Nat.{ℕ, ◌+◌, ◌≤◌, ◌<◌}
 use native.Mathlib.Omega.{arith}
-use borrow.Author.Rules.{rules}
 use lib.ListN.{get_or, set, length-set}
 use Rattle.masks.specs.Mask.{nth}
 use Rattle.order.specs.Order.{strictly_in, above_in}

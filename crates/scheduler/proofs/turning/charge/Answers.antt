@@ -1,6 +1,4 @@
 -- `scheduler::turning::charge` meets its contract: each branch is the side of the definition that its test picks, and a difference of naturals does not fall below 0.
-use borrow.Author.Rules.{rules}
-use Rattle.basics.proofs.Truth.{not-true, not-not}
 use Rattle.rules.specs.Traversal.{charge}
 use Rattle.scheduler.proofs.turning.charge.Goals as goal
 

@@ -1,5 +1,5 @@
 -- `wires::driving::activate` meets its contract: the four stores are those of the definition.
-use Rattle.std.proofs.Common.{◌≡◌, ℕ, ◌+◌, ◌%◌, arith, rules}
+use Rattle.std.proofs.Common.{◌≡◌, ℕ, ◌+◌, ◌%◌, arith}
 use Rattle.requests.specs.Word.{rank_of, kind_of}
 use Rattle.rules.specs.Wire.{activated}
 use Rattle.requests.proofs.Word.{rank-small}

@@ -1,5 +1,5 @@
 -- `wires::driving::offset_allows` meets its contract: with sound timing the difference does not wrap, and it is the definition at the offset that is handed in.
-use Rattle.std.proofs.Common.{◌≡◌, ℕ, ◌-◌, ◌||◌, ltb, ap₂, arith, rules}
+use Rattle.std.proofs.Common.{◌≡◌, ℕ, ◌-◌, ◌||◌, ltb, ap₂, arith}
 use Rattle.rules.specs.Wire.{offset_allows}
 use Rattle.wires.proofs.driving.offset_allows.Goals as goal
 

@@ -1,5 +1,5 @@
 -- `wires::driving::opens_of` meets its contract: the gaps are met from the latest of three ticks on, and what is handed back is the later of two of them or, where that has come, the third.
-use Rattle.std.proofs.Common.{◌≡◌, ℕ, max, cond, eqb, get_or, ap, ◌∙◌, ap₂, arith, rules}
+use Rattle.std.proofs.Common.{◌≡◌, ℕ, max, cond, eqb, get_or, ap, ◌∙◌, ap₂, arith}
 use Rattle.requests.specs.Word.{kind_of, bank_place}
 use Rattle.rules.specs.Wire.{opens_at, bank_gap}
 use Rattle.wires.proofs.driving.opens_of.Goals as goal

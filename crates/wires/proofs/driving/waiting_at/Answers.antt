@@ -1,5 +1,5 @@
 -- `wires::driving::waiting_at` meets its contract: a place of a class's ring is one of the 128.
-use Rattle.std.proofs.Common.{arith, rules}
+use Rattle.std.proofs.Common.{arith}
 use Rattle.queues.specs.Waiting.{place}
 use Rattle.queues.proofs.Waiting.{of-class}
 use Rattle.wires.proofs.driving.waiting_at.Goals as goal

@@ -1,5 +1,5 @@
 -- `wires::queueing::close_up` meets its contract. The invariant: closing up the `older` requests that are left comes to closing up all.
-use Rattle.std.proofs.Common.{◌≡◌, ℕ, ◌-◌, get_or, set, sym, refl, ap, ◌∙◌, ap₂, arith, rules}
+use Rattle.std.proofs.Common.{◌≡◌, ℕ, ◌-◌, get_or, set, sym, refl, ap, ◌∙◌, ap₂, arith}
 use Rattle.queues.specs.Waiting.{place}
 use Rattle.queues.proofs.Waiting.{of-class}
 use Rattle.rules.specs.Queue.{closed_up}

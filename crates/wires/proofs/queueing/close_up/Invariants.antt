@@ -1,9 +1,6 @@
 -- `wires::queueing::close_up` meets its contract. The invariant: closing up the `older` requests that are left comes to closing up all.
-use Rattle.std.proofs.Common.{◌≡◌, ℕ, ◌-◌, get_or, set, sym, refl, ap, ◌∙◌, ap₂, arith, rules}
-use Rattle.queues.specs.Waiting.{place}
-use Rattle.queues.proofs.Waiting.{of-class}
+use Rattle.std.proofs.Common.{◌≡◌}
 use Rattle.rules.specs.Queue.{closed_up}
-use Rattle.rules.proofs.Queue.{closed-step}
 use Rattle.wires.proofs.queueing.close_up.Given as goal
 
 abbrev pub invariant-loop-older : goal.invariant-loop-older

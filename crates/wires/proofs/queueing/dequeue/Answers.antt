@@ -1,5 +1,5 @@
 -- `wires::queueing::dequeue` meets its contract: the next place of a ring is that of the head's remainder, and the rest is what its parts promise.
-use Rattle.std.proofs.Common.{◌≡◌, ◌+◌, ◌%◌, get_or, arith, rules}
+use Rattle.std.proofs.Common.{◌≡◌, ◌+◌, ◌%◌, get_or, arith}
 use Rattle.queues.specs.Waiting.{head_of, length_of, passed_of}
 use Rattle.rules.specs.Queue.{dequeue}
 use Rattle.wires.proofs.queueing.dequeue.Goals as goal

@@ -1,5 +1,5 @@
 -- `wires::queueing::enqueue` meets its contract: a place of a class's ring is one of the 128.
-use Rattle.std.proofs.Common.{◌≡◌, get_or, ◌∙◌, arith, rules}
+use Rattle.std.proofs.Common.{◌≡◌, get_or, ◌∙◌, arith}
 use Rattle.queues.specs.Waiting.{head_of, length_of, place}
 use Rattle.queues.proofs.Waiting.{of-class}
 use Rattle.rules.specs.Queue.{enqueue}

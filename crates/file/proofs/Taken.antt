@@ -281,7 +281,7 @@ module _ (s : List ℕ) (given : Bytes s) (f : Form s) (l : Lengths s) where
 
 module _ (s : List ℕ) (given : Bytes s) where
   reflected : Reflected (file_tests s) (conditions s)
-  unfolding file_tests policy_tests held made class_count
+  unfolding file_tests policy_tests held class_count
   reflected =
       next (form-said s) (form-tested s)
       (λ f.
@@ -536,7 +536,7 @@ module _ (s : List ℕ) (h : Encoded s) where
       (either (eqb h.size 11))
 
   held-is : held s ≡ policy_of h.n h.row h.epoch h.minimum h.size h.timing
-  unfolding held policy_of timing_from made class_count epoch_of timing_of
+  unfolding held policy_of class_count epoch_of timing_of
   held-is =
       let e : byte s (start s 1) ≡ h.epoch = ap (byte s) turns-start ∙ h.encoded.epoch_byte in
       λ i.
@@ -574,22 +574,20 @@ module _ (s : List ℕ) (given : Bytes s) (taken : status s ≡ 0) where
   sizes = lengths-said s tests.1
 
   -- what is no class has no minimum in it
-  held-fit : Fit (class_count s) (list_of 16 (row_at s)) (list_of 16 (minimum_at s)) (timing_of s)
-  unfolding class_count timing_of
+  held-fit : Fit (class_count s) (list_of 16 (row_at s)) (list_of 16 (minimum_at s))
+  unfolding class_count
   held-fit =
       let form = form-said s tests.0 in
       record {
         sixteen_rows = length-list_of (row_at s) 16;
         sixteen_minimums = length-list_of (minimum_at s) 16;
         row_bits = λ i l. (stored s given form sizes).small i;
-        four_gaps = refl;
-        two_gaps = refl;
         few = (sizes.count_bounds.at_least, sizes.count_bounds.at_most);
         no_minimum = λ i b. minimum-void s given form sizes i (orders.past-classes (byte s 16) i b);
       }
 
   held-in-range : in_range (held s) ≡ true
-  unfolding held
+  unfolding held made
   held-in-range = made-in-range (class_count s) (list_of 16 (row_at s)) (epoch_of s) (list_of 16 (minimum_at s)) (timing_of s) held-fit tests.2
 
 -- the policy handed back where the status is 0

@@ -1,8 +1,10 @@
 -- The policy file: "A contents table, then the bodies." A file is a list of bytes.
-use Rattle.std.specs.Prelude.{Bool, cond, ◌&&◌, List, [], ◌∷◌, ℕ, ◌+◌, ◌*◌, ltb, eqb, length, get_or}
+use Rattle.std.specs.Prelude.{Bool, cond, ◌&&◌, List, [], ◌∷◌, ℕ, ◌+◌, ◌*◌, ltb, eqb, length, get_or, replicate}
 use Rattle.basics.specs.Below.{list_of}
+use Rattle.order.specs.Order.{cover_set}
+use Rattle.turns.specs.Turns.{cap_in}
 use Rattle.timing.specs.Timing.{within}
-use Rattle.policy.specs.Policy.{made, no_policy, first_failing, policy_tests}
+use Rattle.policy.specs.Policy.{first_failing, policy_tests}
 use Rattle.timing.specs.declared.Timing.{Timing}
 use Rattle.policy.specs.declared.Policy.{Policy}
 use Rattle.file.specs.declared.Reading.{Reading}
@@ -92,7 +94,32 @@ timing_of s =
 
 -- the policy that the bodies hold, with its covers and caps
 unfoldable pub held : List ℕ → Policy
-held s = made (class_count s) (list_of 16 (row_at s)) (epoch_of s) (list_of 16 (minimum_at s)) (timing_of s)
+held s =
+    let rows = list_of 16 (row_at s) in
+    let minimums = list_of 16 (minimum_at s) in
+    record {
+      classes = class_count s;
+      rows = rows;
+      epoch = epoch_of s;
+      minimums = minimums;
+      timing = timing_of s;
+      covers = list_of 16 (cover_set rows);
+      caps = list_of 16 (cap_in (class_count s) rows (epoch_of s) minimums);
+    }
+
+-- "the policy of no classes, all zeros"
+unfoldable pub no_policy : Policy
+no_policy =
+    let zeros : List ℕ = replicate 16 0 in
+    record {
+      classes = 0;
+      rows = zeros;
+      epoch = 0;
+      minimums = zeros;
+      timing = record { turn = 0; dead = 0; gaps = replicate 4 0; bank = replicate 2 0; column = 0; response = 0; ranks = 0; rank = 0 };
+      covers = zeros;
+      caps = zeros;
+    }
 
 -- ---- reading
 

@@ -3,8 +3,9 @@
 use Rattle.std.specs.Prelude.{◌≡◌, ◌↔◌, Bool, true, cond, List, [], ◌∷◌, ℕ, suc, ◌+◌, ◌*◌, ◌≤◌, ◌<◌, ltb, eqb, length}
 use Rattle.basics.specs.Below.{sum, list_of}
 use Rattle.masks.specs.Mask.{member}
-use Rattle.order.specs.Order.{is_class_in}
-use Rattle.policy.specs.Policy.{made, in_range}
+use Rattle.order.specs.Order.{is_class_in, cover_set}
+use Rattle.turns.specs.Turns.{cap_in}
+use Rattle.policy.specs.Policy.{in_range}
 use Rattle.file.specs.File.{byte, word, read_file}
 use Rattle.order.specs.Laws.{Reflexive, Antisymmetric, Transitive, Least}
 use Rattle.timing.specs.declared.Timing.{Timing}
@@ -93,7 +94,27 @@ timing_from size timing =
 -- the policy of these numbers, as it is handed back
 unfoldable pub policy_of : ℕ → (ℕ → ℕ) → ℕ → (ℕ → ℕ) → ℕ → (ℕ → ℕ) → Policy
 policy_of n row epoch minimum size timing =
-    made n (list_of 16 (λ i. cond (ltb i n) (row i) 0)) epoch (list_of 16 (λ i. cond (ltb i n) (minimum i) 0)) (timing_from size timing)
+    let rows = list_of 16 (λ i. cond (ltb i n) (row i) 0) in
+    let minimums = list_of 16 (λ i. cond (ltb i n) (minimum i) 0) in
+    record {
+      classes = n;
+      rows = rows;
+      epoch = epoch;
+      minimums = minimums;
+      timing =
+          record {
+            turn = timing 0;
+            dead = timing 1;
+            gaps = timing 2 ∷ timing 3 ∷ timing 4 ∷ timing 5 ∷ [];
+            bank = timing 6 ∷ timing 7 ∷ [];
+            column = timing 8;
+            response = timing 9;
+            ranks = cond (eqb size 11) 4 1;
+            rank = cond (eqb size 11) (timing 10) 0;
+          };
+      covers = list_of 16 (cover_set rows);
+      caps = list_of 16 (cap_in n rows epoch minimums);
+    }
 
 -- ---- taken, if and only if
 

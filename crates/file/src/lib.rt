@@ -3,8 +3,10 @@
 #![tactic(auto)]
 
 ghost use Rattle.std.specs.Prelude.{◌≡◌, ◌<◌};
-ghost use Rattle.file.specs.File.{byte, word, start, body_size, kinds_fit, bodies_abut, contents_fit, lengths_fit, row_at, minimum_at, ranks_of, rank_gap_of, timing_of, held, refused_with, read_file};
+ghost use Rattle.file.specs.File.{byte, word, start, body_size, kinds_fit, bodies_abut, contents_fit, lengths_fit, row_at, minimum_at, ranks_of, rank_gap_of, timing_of, held, no_policy, refused_with, read_file};
 ghost use Rattle.basics.specs.Below.{list_of};
+ghost use Rattle.order.specs.Order.{cover_set};
+ghost use Rattle.turns.specs.Turns.{cap_in};
 
 use policy::Policy;
 use timing::Timing;
@@ -180,6 +182,30 @@ fn timing_of(s: &[u8]) -> Timing
     }
 }
 
+fn covers_in(rows: [u16; 16]) -> [u16; 16]
+    ensures { result ≡ list_of 16 (cover_set rows) }
+{
+    let mut covers = [0u16; 16];
+    let mut i = 0;
+    while i < 16 {
+        covers[i] = order::cover_set(rows, i);
+        i += 1;
+    }
+    covers
+}
+
+fn caps_in(classes: usize, rows: [u16; 16], epoch: u32, minimums: [u32; 16]) -> [u32; 16]
+    ensures { result ≡ list_of 16 (cap_in classes rows epoch minimums) }
+{
+    let mut caps = [0u32; 16];
+    let mut i = 0;
+    while i < 16 {
+        caps[i] = turns::cap_in(classes, rows, epoch, minimums, i);
+        i += 1;
+    }
+    caps
+}
+
 // The policy that the bodies hold.
 fn held(s: &[u8]) -> Policy
     ensures { result ≡ held s.now }
@@ -189,13 +215,47 @@ fn held(s: &[u8]) -> Policy
     let epoch = number(s, start(s, 1) as usize);
     let minimums = minimums_of(s);
     let timing = timing_of(s);
-    policy::made(classes, rows, epoch, minimums, timing)
+    let covers = covers_in(rows);
+    let caps = caps_in(classes, rows, epoch, minimums);
+    Policy {
+        classes,
+        rows,
+        epoch,
+        minimums,
+        timing,
+        covers,
+        caps,
+    }
+}
+
+// The policy of no classes, all zeros.
+fn no_policy() -> Policy
+    ensures { result ≡ no_policy }
+{
+    Policy {
+        classes: 0,
+        rows: [0u16; 16],
+        epoch: 0,
+        minimums: [0u32; 16],
+        timing: Timing {
+            turn: 0,
+            dead: 0,
+            gaps: [0u32; 4],
+            bank: [0u32; 2],
+            column: 0,
+            response: 0,
+            ranks: 0,
+            rank: 0,
+        },
+        covers: [0u16; 16],
+        caps: [0u32; 16],
+    }
 }
 
 fn refused(status: u32) -> Reading
     ensures { result ≡ refused_with status }
 {
-    let policy = policy::none();
+    let policy = no_policy();
     Reading { status, policy }
 }
 

@@ -89,24 +89,19 @@ module _ (p : Policy) (given : in_range p ≡ true) where
     covers : length p.covers ≡ 16
     caps : length p.caps ≡ 16
     small : (i : ℕ) → i < 16 → get_or p.rows i 0 < 2 ^ 16
-    gaps : length p.timing.gaps ≡ 4
-    bank : length p.timing.bank ≡ 2
 
   shape : Shape
   unfolding shaped
   shape =
       let four = eqb (length p.rows) 16 && eqb (length p.minimums) 16 && eqb (length p.covers) 16 && eqb (length p.caps) 16 in
       let bits = every 16 (λ i. ltb (get_or p.rows i 0) 65536) in
-      let all = and-four four bits (eqb (length p.timing.gaps) 4) (eqb (length p.timing.bank) 2) parts.0 in
-      let long = and-four (eqb (length p.rows) 16) (eqb (length p.minimums) 16) (eqb (length p.covers) 16) (eqb (length p.caps) 16) all.0 in
+      let long = and-four (eqb (length p.rows) 16) (eqb (length p.minimums) 16) (eqb (length p.covers) 16) (eqb (length p.caps) 16) (and_left four bits parts.0) in
       record {
         rows = eqb-true _ 16 long.0;
         minimums = eqb-true _ 16 long.1;
         covers = eqb-true _ 16 long.2;
         caps = eqb-true _ 16 long.3;
-        small = λ i l. ltb-true (get_or p.rows i 0) 65536 (every-at (λ k. ltb (get_or p.rows k 0) 65536) 16 all.1 i l);
-        gaps = eqb-true _ 4 all.2;
-        bank = eqb-true _ 2 all.3;
+        small = λ i l. ltb-true (get_or p.rows i 0) 65536 (every-at (λ k. ltb (get_or p.rows k 0) 65536) 16 (and_right four bits parts.0) i l);
       }
 
   past : (l : List ℕ) → length l ≡ 16 → (i : ℕ) → 16 ≤ i → get_or l i 0 ≡ 0
@@ -504,8 +499,6 @@ module _ (p : Policy) (given : in_range p ≡ true) where
         row_bits = (stored p given).small;
         sixteen_rows = (shape p given).rows;
         sixteen_minimums = (shape p given).minimums;
-        four_gaps = (shape p given).gaps;
-        two_gaps = (shape p given).bank;
       }
 
 -- ---- all of them

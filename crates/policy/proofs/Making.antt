@@ -17,28 +17,22 @@ use Rattle.basics.proofs.Truth.{either, and_both, or_left, or_right}
 use Rattle.basics.proofs.Below.{every-all, get_or-list_of, length-list_of}
 
 -- what the types of the fields say, and that what is no class has no minimum
-pub record Fit (n : ℕ) (rows minimums : List ℕ) (timing : Timing) : Type 0 where
+pub record Fit (n : ℕ) (rows minimums : List ℕ) : Type 0 where
   pub sixteen_rows : length rows ≡ 16
   pub sixteen_minimums : length minimums ≡ 16
   pub row_bits : (i : ℕ) → i < 16 → get_or rows i 0 < 65536
-  pub four_gaps : length timing.gaps ≡ 4
-  pub two_gaps : length timing.bank ≡ 2
   pub few : (1 ≤ n) × (n ≤ 16)
   pub no_minimum : (i : ℕ) → is_class_in n i ≡ false → get_or minimums i 0 ≡ 0
 
-module _ (n : ℕ) (rows : List ℕ) (epoch : ℕ) (minimums : List ℕ) (timing : Timing) (fit : Fit n rows minimums timing) where
+module _ (n : ℕ) (rows : List ℕ) (epoch : ℕ) (minimums : List ℕ) (timing : Timing) (fit : Fit n rows minimums) where
   made_shaped : shaped (made n rows epoch minimums timing) ≡ true
   unfolding shaped made
   made_shaped =
       and_both
       (and_both
-      (and_both
-      (and_both
       (and_both (and_both (eq-eqb _ 16 fit.sixteen_rows) (eq-eqb _ 16 fit.sixteen_minimums)) (eq-eqb _ 16 (length-list_of (cover_set rows) 16)))
       (eq-eqb _ 16 (length-list_of (cap_in n rows epoch minimums) 16)))
-      (every-all (λ i. ltb (get_or rows i 0) 65536) 16 (λ i l. lt-ltb (get_or rows i 0) 65536 (fit.row_bits i l))))
-      (eq-eqb _ 4 fit.four_gaps))
-      (eq-eqb _ 2 fit.two_gaps)
+      (every-all (λ i. ltb (get_or rows i 0) 65536) 16 (λ i l. lt-ltb (get_or rows i 0) 65536 (fit.row_bits i l)))
 
   made-stored : all_stored_fits (made n rows epoch minimums timing) ≡ true
   unfolding all_stored_fits stored_fits covers_of cap is_class minimum made

@@ -120,8 +120,6 @@ pub record NumberLaws (p : Policy) : Type 0 where
   pub row_bits : (i : ℕ) → get_or p.rows i 0 < 2 ^ 16
   pub sixteen_rows : length p.rows ≡ 16
   pub sixteen_minimums : length p.minimums ≡ 16
-  pub four_gaps : length p.timing.gaps ≡ 4
-  pub two_gaps : length p.timing.bank ≡ 2
 
 pub record PolicyLaws (p : Policy) : Type 0 where
   pub order : OrderLaws p

@@ -121,8 +121,7 @@ stored_fits p i =
 unfoldable pub all_stored_fits : Policy → Bool
 all_stored_fits p = every 16 (stored_fits p)
 
--- what the types of the fields say: sixteen entries in each list, and rows of sixteen bits; four gaps by the two kinds, and two of one bank. No policy that a program can hold
--- breaks it.
+-- what the types of the fields say: sixteen entries in each list, and rows of sixteen bits. No policy that a program can hold breaks it.
 unfoldable pub shaped : Policy → Bool
 shaped p =
     eqb (length p.rows) 16
@@ -130,8 +129,6 @@ shaped p =
     && eqb (length p.covers) 16
     && eqb (length p.caps) 16
     && every 16 (λ i. ltb (get_or p.rows i 0) 65536)
-    && eqb (length p.timing.gaps) 4
-    && eqb (length p.timing.bank) 2
 
 -- the policy's part of 13: "a policy that 2 to 8 would refuse, or whose stored children or caps are not its order's"
 unfoldable pub in_range : Policy → Bool

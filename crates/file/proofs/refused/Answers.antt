@@ -5,4 +5,4 @@ use Rattle.file.proofs.refused.Goals as goal
 
 pub returns : goal.returns
 unfolding refused_with
-returns c = rw c.none-policy.ensures
+returns c = rw c.no_policy-policy.ensures

@@ -23,17 +23,11 @@ well-shaped c =
     let minimums : length p.minimums ≡ 16 = search rules in
     let covers : length p.covers ≡ 16 = search rules in
     let caps : length p.caps ≡ 16 = search rules in
-    let gaps : length p.timing.gaps ≡ 4 = search rules in
-    let bank : length p.timing.bank ≡ 2 = search rules in
-    and_both
-    (and_both
-    (and_both (and_both (and_both (and_both (eq-eqb _ 16 rows) (eq-eqb _ 16 minimums)) (eq-eqb _ 16 covers)) (eq-eqb _ 16 caps))
+    and_both (and_both (and_both (and_both (eq-eqb _ 16 rows) (eq-eqb _ 16 minimums)) (eq-eqb _ 16 covers)) (eq-eqb _ 16 caps))
     (every-all (λ i. ltb (get_or p.rows i 0) 65536) 16
     (λ i l.
     let fits : Fits w16 (get_or p.rows i 0) = search rules in
-    lt-ltb (get_or p.rows i 0) 65536 fits.fits)))
-    (eq-eqb _ 4 gaps))
-    (eq-eqb _ 2 bank)
+    lt-ltb (get_or p.rows i 0) 65536 fits.fits))
 
 pub returns : goal.returns
 unfolding in_range within

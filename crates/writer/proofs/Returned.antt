@@ -1,5 +1,5 @@
 -- Reading the file of a policy in range gives that policy back: each number is found at the place where it was written, and what is made of them is the policy, since a policy in
--- range is the one made of its numbers. A file that is taken is the one written of its policy: each of its bytes is that of a number which the file encodes.
+-- range is the one made of its numbers, and its timing has as many gaps as its type says. A file that is taken is the one written of its policy: each of its bytes is that of a number which the file encodes.
 -- Assumes nothing.
 use mathlib.Core.Path.{◌≡◌, refl, sym, ap, ap₂, ◌∙◌, subst}
 use mathlib.Core.Logic.{⊎_elim}
@@ -14,13 +14,14 @@ use lib.ListN.{length, get_or}
 use lib.Seq.{ext_get_or}
 use Rattle.basics.specs.Below.{list_of}
 use Rattle.order.specs.Order.{is_class_in}
-use Rattle.timing.specs.Timing.{within}
-use Rattle.policy.specs.Policy.{made, is_class, minimum, first_failing, refusal, in_range}
+use Rattle.timing.specs.Timing.{within, gaps_within, bank_within, timing_sound}
+use Rattle.policy.specs.Policy.{made, is_class, minimum, first_failing, policy_tests, refusal, in_range}
 use Rattle.policy.specs.Laws.{PolicyLaws}
-use Rattle.file.specs.File.{byte, word, kind, start, body_size, kinds_fit, bodies_abut, contents_fit, class_count, lengths_fit, row_at, epoch_of, minimum_at, ranks_of, rank_gap_of, timing_of, held, file_tests, status, read_file}
-use Rattle.file.specs.Taken.{Bytes, Between, Entry, Encodes, timing_from, policy_of, Encoded}
+use Rattle.file.specs.File.{byte, word, kind, start, body_size, kinds_fit, bodies_abut, contents_fit, class_count, lengths_fit, row_at, epoch_of, minimum_at, ranks_of, rank_gap_of, timing_of, held, no_policy, file_tests, status, refused_with, read_file}
+use Rattle.file.specs.Taken.{Bytes, Between, Entry, Encodes, policy_of, Encoded}
 use Rattle.writer.specs.Written.{timing_size, file_size, contents, half_of, order_byte, turns_byte, timing_bytes, file_byte, file_of}
-use Rattle.writer.specs.ReadBack.{ReadBack, WrittenBack}
+use Rattle.writer.specs.ReadBack.{TimingShape, ReadBack, WrittenBack}
+use Rattle.timing.specs.declared.Timing.{Timing}
 use Rattle.policy.specs.declared.Policy.{Policy}
 use Rattle.basics.proofs.Truth.{either, and_both}
 use Rattle.basics.proofs.Below.{lt-or-ge, length-list_of, get_or-list_of}
@@ -255,37 +256,72 @@ module _ (p : Policy) (given : in_range p ≡ true) where
       (rw eleven (sym four.0), rw eleven (timing-at 10 (omega (arith, size)))))
       laws.timed.ranks_are
 
-  timing-is : timing_of (file_of p) ≡ p.timing
+  -- the timing that is read: p's, with the gaps that were written
+  abbrev read-timing : Timing
+  read-timing =
+      let t = p.timing in
+      record {
+        turn = t.turn;
+        dead = t.dead;
+        gaps = get_or t.gaps 0 0 ∷ get_or t.gaps 1 0 ∷ get_or t.gaps 2 0 ∷ get_or t.gaps 3 0 ∷ [];
+        bank = get_or t.bank 0 0 ∷ get_or t.bank 1 0 ∷ [];
+        column = t.column;
+        response = t.response;
+        ranks = t.ranks;
+        rank = t.rank;
+      }
+
+  timing-is : timing_of (file_of p) ≡ read-timing
   unfolding timing_of timing_bytes
   timing-is =
-      let t = p.timing in
-      let gaps = (λ i. first-ten 2 (lit< tt) i ∷ first-ten 3 (lit< tt) i ∷ first-ten 4 (lit< tt) i ∷ first-ten 5 (lit< tt) i ∷ []) ∙ four-entries t.gaps laws.numbers.four_gaps in
-      let bank = (λ i. first-ten 6 (lit< tt) i ∷ first-ten 7 (lit< tt) i ∷ []) ∙ two-entries t.bank laws.numbers.two_gaps in
       λ i.
       record {
         turn = turn_is i;
         dead = first-ten 1 (lit< tt) i;
-        gaps = gaps i;
-        bank = bank i;
+        gaps = first-ten 2 (lit< tt) i ∷ first-ten 3 (lit< tt) i ∷ first-ten 4 (lit< tt) i ∷ first-ten 5 (lit< tt) i ∷ [];
+        bank = first-ten 6 (lit< tt) i ∷ first-ten 7 (lit< tt) i ∷ [];
         column = first-ten 8 (lit< tt) i;
         response = first-ten 9 (lit< tt) i;
         ranks = ranks_are.0 i;
         rank = ranks_are.1 i;
       }
 
+  -- which is p's own where it has as many gaps as its type says
+  timing-own : TimingShape p.timing → read-timing ≡ p.timing
+  timing-own shape =
+      let t = p.timing in
+      λ i.
+      record {
+        turn = t.turn;
+        dead = t.dead;
+        gaps = four-entries t.gaps shape.four_gaps i;
+        bank = two-entries t.bank shape.two_gaps i;
+        column = t.column;
+        response = t.response;
+        ranks = t.ranks;
+        rank = t.rank;
+      }
+
   -- ---- all of it
 
-  held-is : held (file_of p) ≡ p
-  unfolding held
-  held-is = (λ i. made (count-is i) (rows_are i) (epoch-is i) (minimums-are i) (timing-is i)) ∙ sym laws.numbers.is_made
+  held-is : held (file_of p) ≡ made p.classes p.rows p.epoch p.minimums read-timing
+  unfolding held made
+  held-is = λ i. made (count-is i) (rows_are i) (epoch-is i) (minimums-are i) (timing-is i)
 
+  -- the tests see no more of the timing than was written
   not_refused : status (file_of p) ≡ 0
-  unfolding status file_tests first_failing refusal
+  unfolding status file_tests first_failing refusal policy_tests made timing_sound gaps_within bank_within
   not_refused = rw (contents-fit, lengths-fit, held-is) laws.numbers.not_refused
 
-  reads : read_file (file_of p) ≡ record { status = 0; policy = p }
+  taken : (read_file (file_of p)).status ≡ 0
   unfolding read_file
-  reads = rw not_refused (λ i. record { status = 0; policy = held-is i })
+  taken = rw not_refused
+
+  reads : TimingShape p.timing → read_file (file_of p) ≡ record { status = 0; policy = p }
+  unfolding read_file
+  reads shape =
+      let same = held-is ∙ (λ i. made p.classes p.rows p.epoch p.minimums (timing-own shape i)) ∙ sym laws.numbers.is_made in
+      rw not_refused (λ i. record { status = 0; policy = same i })
 
   -- ---- the numbers, where document 01 has them
 
@@ -313,7 +349,7 @@ module _ (p : Policy) (given : in_range p ≡ true) where
       }
 
   pub read_back : ReadBack p
-  read_back = record { bytes = bytes; encodes = numbers; reads = reads }
+  read_back = record { bytes = bytes; encodes = numbers; taken = taken; reads = reads }
 
 -- ---- writing what was read
 
@@ -339,23 +375,23 @@ module _ (n : ℕ) (row : ℕ → ℕ) (epoch : ℕ) (minimum-of : ℕ → ℕ) 
   made-policy = policy_of n row epoch minimum-of size timing
 
   made-classes : made-policy.classes ≡ n
-  unfolding made-policy policy_of made
+  unfolding made-policy policy_of
   made-classes = refl
 
   made-epoch : made-policy.epoch ≡ epoch
-  unfolding made-policy policy_of made
+  unfolding made-policy policy_of
   made-epoch = refl
 
   made_row : (i : ℕ) → i < n → get_or made-policy.rows i 0 ≡ row i
-  unfolding made-policy policy_of made
+  unfolding made-policy policy_of
   made_row i l = get_or-list_of (λ j. cond (ltb j n) (row j) 0) 16 i (omega arith) ∙ rw (lt-ltb i n l)
 
   made-minimum : (i : ℕ) → i < n → minimum made-policy i ≡ minimum-of i
-  unfolding made-policy policy_of made minimum
+  unfolding made-policy policy_of minimum
   made-minimum i l = get_or-list_of (λ j. cond (ltb j n) (minimum-of j) 0) 16 i (omega arith) ∙ rw (lt-ltb i n l)
 
   made-size : timing_size made-policy.timing ≡ size
-  unfolding made-policy policy_of made timing_from timing_size
+  unfolding made-policy policy_of timing_size
   made-size =
       ⊎_elim (λ eleven. rw eleven (sym (eqb-true size 11 eleven)))
       (λ other. rw other (omega (arith, eqb-false size 11 other, sized.at_least, sized.at_most)))
@@ -378,7 +414,7 @@ module _ (n : ℕ) (row : ℕ → ℕ) (epoch : ℕ) (minimum-of : ℕ → ℕ) 
       (either (eqb size 11))
 
   made-body : Agrees number 0 (timing_bytes made-policy.timing)
-  unfolding made-policy policy_of made timing_from timing_bytes
+  unfolding made-policy policy_of timing_bytes
   made-body =
       more (timing 0) (number_is 0 (lit< tt))
       (more (timing 1) (number_is 1 (lit< tt))
@@ -561,11 +597,19 @@ module _ (s : List ℕ) (given : Bytes s) (h : Encoded s) where
       let below : k < file_size q = omega (arith, length-list_of (file_byte q) (file_size q)) in
       get_or-list_of (file_byte q) (file_size q) k below ∙ bytes_same k (omega (arith, whole)))
 
+shape-read : (s : List ℕ) → TimingShape (read_file s).policy.timing
+unfolding read_file held timing_of refused_with no_policy
+shape-read s =
+    ⊎_elim (λ yes. rw yes (record { four_gaps = refl; two_gaps = refl }))
+    (λ no. rw no (record { four_gaps = refl; two_gaps = refl }))
+    (either (eqb (status s) 0))
+
 pub written_back : (s : List ℕ) → Bytes s → WrittenBack s
 unfolding q made-policy
 written_back s given =
     let iff = taken-iff s given in
     record {
+      shape = shape-read s;
       same =
           λ e.
           let h = iff.taken.0 e in

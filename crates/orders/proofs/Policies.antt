@@ -19,6 +19,7 @@ use Rattle.policy.specs.Policy.{made, no_policy, first_failing, policy_tests, re
 use Rattle.file.specs.File.{byte, read_file}
 use Rattle.file.specs.Taken.{Between, SoundTiming, Encodes, timing_from, policy_of}
 use Rattle.writer.specs.Written.{file_of}
+use Rattle.writer.specs.ReadBack.{TimingShape}
 use Rattle.policy.specs.declared.Policy.{Policy}
 use Rattle.orders.specs.Listed.{few, count_of, row_at, rows_at, body_timing, policy_at, fetch_status, fetched}
 use Rattle.orders.specs.EveryOrder.{LegalOrder, value, EveryOrder}
@@ -110,7 +111,7 @@ module _ (n : ℕ) (body : List ℕ) where
 
 -- the rows of an order are those at its place
 same-policy : (n place : ℕ) (body : List ℕ) → policy_at n place body ≡ small_policy n (rows_at n place) body
-unfolding policy_at small_policy policy_of rows_at
+unfolding policy_at small_policy policy_of made timing_from rows_at
 same-policy n place body =
     ap (λ (rows : List ℕ). made n rows 4 (list_of 16 (λ i. cond (ltb i n) 0 0)) (timing_from (length body) (byte body)))
     (list_of-same (λ i. cond (ltb i n) (row_at n place i) 0) (λ i. cond (ltb i n) (get_or (list_of n (row_at n place)) i 0) 0) 16
@@ -149,15 +150,13 @@ module _ (n place : ℕ) (body : List ℕ) (a : Asked n body) (below : place < c
   no-turns : turns_sound 4 (list_of 16 (λ i. cond (ltb i n) 0 0)) ≡ true
   no-turns = subst (λ (l : List ℕ). turns_sound 4 l ≡ true) (no-minimums n) zeros-sound
 
-  fit : Fit n (listed.sixteen n place) (list_of 16 (λ i. cond (ltb i n) 0 0)) (timing_from (length body) (byte body))
-  unfolding timing_from listed.sixteen
+  fit : Fit n (listed.sixteen n place) (list_of 16 (λ i. cond (ltb i n) 0 0))
+  unfolding listed.sixteen
   fit =
       record {
         sixteen_rows = length-list_of (λ i. cond (ltb i n) (row_at n place i) 0) 16;
         sixteen_minimums = length-list_of (λ i. cond (ltb i n) 0 0) 16;
         row_bits = λ i l. listed.row_bits n small place i;
-        four_gaps = refl;
-        two_gaps = refl;
         few = (a.few.at_least, omega (arith, small));
         no_minimum = λ i e. no_minimum i;
       }
@@ -169,13 +168,13 @@ module _ (n place : ℕ) (body : List ℕ) (a : Asked n body) (below : place < c
           (lt-or-ge i 16)
 
   none-refuses : refusal (policy_at n place body) ≡ 0
-  unfolding refusal policy_tests first_failing policy_at policy_of made listed.sixteen
+  unfolding refusal policy_tests first_failing policy_at policy_of timing_from listed.sixteen
   none-refuses =
       let tests = listed.passed n small place below in
       rw (tests.0, tests.1, tests.2, tests.3, no-turns, sound-tested (length body) (byte body) a.sound)
 
   at-place-in-range : in_range (policy_at n place body) ≡ true
-  unfolding policy_at policy_of listed.sixteen
+  unfolding policy_at policy_of made timing_from listed.sixteen
   at-place-in-range =
       made-in-range n (listed.sixteen n place) 4 (list_of 16 (λ i. cond (ltb i n) 0 0)) (timing_from (length body) (byte body)) fit none-refuses
 
@@ -204,11 +203,15 @@ module _ (n place : ℕ) (body : List ℕ) (a : Asked n body) (below : place < c
         timing-bytes = holds.timing-bytes;
       }
 
+  shape : TimingShape (policy_at n place body).timing
+  unfolding policy_at policy_of
+  shape = record { four_gaps = refl; two_gaps = refl }
+
   pub handed_back : HandedBack n place body a below
   handed_back =
       record {
         in-range = ap in_range policy_is ∙ at-place-in-range;
-        reads = subst (λ (p : Policy). read_file (file_of p) ≡ record { status = 0; policy = p }) (sym policy_is) (read_back (policy_at n place body) at-place-in-range).reads;
+        reads = subst (λ (p : Policy). read_file (file_of p) ≡ record { status = 0; policy = p }) (sym policy_is) ((read_back (policy_at n place body) at-place-in-range).reads shape);
         file = subst (λ (p : Policy). Encodes (file_of p) n (λ i. get_or (rows_at n place) i 0) 4 (λ i. 0) (length body) (byte body)) (sym policy_is) same_rows;
       }
 
@@ -216,7 +219,7 @@ module _ (n place : ℕ) (body : List ℕ) (a : Asked n body) (below : place < c
 
 -- two policies of orders of n classes have the same rows only where the orders have
 rows-of-small : (n : ℕ) (rows body : List ℕ) → n ≤ 4 → length rows ≡ n → rows_of (small_policy n rows body) ≡ rows
-unfolding rows_of small_policy policy_of made
+unfolding rows_of small_policy policy_of
 rows-of-small n rows body small long =
     ext_get_or 0 (list_of n (λ i. get_or (list_of 16 (λ j. cond (ltb j n) (get_or rows j 0) 0)) i 0)) rows
     (length-list_of (λ i. get_or (list_of 16 (λ j. cond (ltb j n) (get_or rows j 0) 0)) i 0) n ∙ sym long)

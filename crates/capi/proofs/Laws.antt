@@ -22,7 +22,7 @@ use Rattle.state.specs.declared.Ran.{Ran}
 use Rattle.rules.proofs.Laws.{scheduler-laws}
 use Rattle.rules.proofs.Run.{by-room, by-calls}
 use Rattle.policy.specs.Policy as policies
-use Rattle.policy.specs.Policy.{made, no_policy, is_class, walk_bound}
+use Rattle.policy.specs.Policy.{no_policy, is_class, walk_bound}
 use Rattle.policy.specs.declared.Policy.{Policy}
 use Rattle.policy.specs.declared.Bound.{Bound}
 use Rattle.policy.proofs.Chains.{refused-9, answered}
@@ -95,7 +95,7 @@ module _ (n place : ℕ) (timing file : List ℕ) where
     size_is = sym (length-list_of (file_byte (fetched n place timing).policy) (file_size (fetched n place timing).policy)) ∙ back.file.whole
 
     one-there : there (fetched n place timing) ≡ true
-    unfolding there small_policy policy_of made
+    unfolding there small_policy policy_of
     one-there =
         and_both (eq-eqb (fetched n place timing).status 0 (answers.zero.1 a)) (ap (λ (q : Policy). ltb 0 q.classes) (answers.order_at a below) ∙ lt-ltb 0 n a.few.at_least)
 

@@ -2,10 +2,11 @@
 
 #![tactic(auto)]
 
-ghost use Rattle.std.specs.Prelude.{◌≡◌, cond, ◌<◌, eqb, length, get_or};
+ghost use Rattle.std.specs.Prelude.{◌≡◌, cond, ◌<◌, ◌≤◌, eqb, length, get_or, IfOk};
 ghost use Rattle.script.specs.Script.{after, next_line, digit_of, grown, token_after, with_token, numbers_of};
 
-use libc::STDOUT_FILENO;
+use std::io;
+use std::io::Read;
 
 // A line: its first letter, where its name and its numbers start, and where the next line does; and of the lines before it that it goes by, where their numbers start.
 #[derive(Clone, Copy)]
@@ -64,6 +65,7 @@ fn kept(letter: u8, wanted: u8, number: usize, earlier: usize) -> usize
 }
 
 // The line after another. One that holds what later lines go by is remembered.
+#[tactic(auto, unfolding(crate::specs::Script::next_line, crate::specs::Script::line_end, crate::specs::Script::numbers_start))]
 pub fn next_line(text: &[u8], earlier: Line) -> Line
     ensures line { result ≡ next_line text.now earlier }
     ensures onward { earlier.next < length text.now → earlier.next < result.next }
@@ -84,6 +86,7 @@ pub fn next_line(text: &[u8], earlier: Line) -> Line
 }
 
 // The value of a digit, up to F.
+#[tactic(auto, unfolding(crate::specs::Script::digit_of))]
 fn digit(b: u8) -> u64
     ensures { result ≡ digit_of b }
 {
@@ -97,6 +100,7 @@ fn digit(b: u8) -> u64
 }
 
 // A number with a digit more.
+#[tactic(auto, unfolding(crate::specs::Script::grown))]
 fn grown(base: u32, value: u32, b: u8) -> u32
     ensures { result ≡ grown base value b }
 {
@@ -108,6 +112,7 @@ fn grown(base: u32, value: u32, b: u8) -> u32
 }
 
 // What is read once a byte more is.
+#[tactic(auto, unfolding(crate::specs::Script::token_after))]
 fn token_after(t: Token, b: u8) -> Token
     ensures { result ≡ token_after t b }
 {
@@ -139,6 +144,7 @@ fn token_after(t: Token, b: u8) -> Token
 }
 
 // A list with a number more, where one has ended and there is room.
+#[tactic(auto, unfolding(crate::specs::Script::with_token))]
 fn with_token(list: List, before: Token, after: Token) -> List
     ensures { result ≡ with_token list before after }
 {
@@ -176,35 +182,50 @@ pub fn numbers(text: &[u8], from: usize) -> List
     list
 }
 
+// Reads a script until the buffer is full or the input ends, and answers how many bytes it put at the buffer's start.
+pub fn read(input: &mut impl Read, text: &mut [u8]) -> io::Result<usize>
+    ensures { IfOk result (λ count. count ≤ length text.new) }
+{
+    let mut count = 0;
+    while count < text.len() {
+        let n = input.read(&mut text[count..])?;
+        if n == 0 {
+            break;
+        }
+        count += n;
+    }
+    Ok(count)
+}
+
 // Prints a byte of a name, or for a # the next number, and answers how many numbers were printed.
-fn symbol(b: u8, numbers: List, used: usize) -> usize {
+fn symbol(rt: &impl Print, b: u8, numbers: List, used: usize) -> io::Result<usize> {
     if b != b'#' {
-        io::write_all(STDOUT_FILENO, &[b]);
-        return used;
+        rt.write_all(&[b])?;
+        return Ok(used);
     }
     if 160 <= used {
-        return used;
+        return Ok(used);
     }
-    io::print_decimal(STDOUT_FILENO, numbers.at[used] as u64);
-    used + 1
+    rt.print(numbers.at[used])?;
+    Ok(used + 1)
 }
 
 // Prints a line's name, up to its colon, with the numbers that stand for each # in it.
-pub fn name(text: &[u8], l: Line, numbers: List) {
+pub fn name(rt: &impl Print, text: &[u8], l: Line, numbers: List) -> io::Result<()> {
     let mut used = 0;
     let mut at = l.name;
     while at < text.len() {
         let b = text[at];
         if b == b':' {
-            return;
+            break;
         }
-        used = symbol(b, numbers, used);
+        used = symbol(rt, b, numbers, used)?;
         at += 1;
     }
+    Ok(())
 }
 
 // Prints a number after a space.
-pub fn spaced(n: usize) {
-    io::write_all(STDOUT_FILENO, b" ");
-    io::print_decimal(STDOUT_FILENO, n as u64);
+pub fn spaced(rt: &impl Print, n: usize) -> io::Result<()> {
+    print!(rt; " {n}")
 }

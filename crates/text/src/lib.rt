@@ -95,6 +95,7 @@ pub fn lines(log: &[u32], out: &mut [u8]) -> usize
 // ---- a trace's words
 
 // Word i of the bytes, low byte first.
+#[tactic(auto, unfolding(crate::specs::Words::word_at))]
 fn word_at(bytes: &[u8], i: usize) -> u32
     requires { 4 * i + 4 ≤ length bytes.now }
     ensures { result ≡ word_at bytes.now i }

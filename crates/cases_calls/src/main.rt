@@ -6,10 +6,10 @@
 
 ghost use Rattle.std.specs.Prelude.{◌≤◌};
 
-use libc::{STDIN_FILENO, STDOUT_FILENO};
 use policy::Policy;
 use script::{Line, List};
 use state::State;
+use std::io;
 
 mod change;
 mod runs;
@@ -25,17 +25,17 @@ pub(crate) struct Case {
     pub state: State,
 }
 
-pub(crate) fn words(text: &[u8]) {
-    io::write_all(STDOUT_FILENO, text);
+pub(crate) fn words(rt: &impl Print, text: &[u8]) -> io::Result<()> {
+    rt.write_all(text)
 }
 
-pub(crate) fn end_line() {
-    words(b"\n");
+pub(crate) fn end_line(rt: &impl Print) -> io::Result<()> {
+    words(rt, b"\n")
 }
 
 // Prints a number after a space.
-pub(crate) fn number(n: u32) {
-    script::spaced(n as usize);
+pub(crate) fn number(rt: &impl Print, n: u32) -> io::Result<()> {
+    script::spaced(rt, n as usize)
 }
 
 pub(crate) fn least(a: usize, b: usize) -> usize
@@ -72,36 +72,36 @@ fn laid_out(text: &[u8], l: Line) -> Case {
     change::changed(made, own_numbers(l.letter))
 }
 
-fn answer(text: &[u8], l: Line, c: Case) {
+fn answer(rt: &impl Print, text: &[u8], l: Line, c: Case) -> io::Result<()> {
     let letter = l.letter;
     match letter {
-        b'o' => singles::offer(c),
-        b't' => singles::tick(c),
-        b'f' => singles::fresh(c),
-        b's' => runs::single(text, l, c),
-        b'l' => runs::list(text, l, c),
-        b'a' => runs::whole(c),
-        b'p' => runs::plain(text, l, c),
-        b'h' => runs::halves(c),
-        b'u' => runs::unshown(text, l, c),
-        _ => {}
+        b'o' => singles::offer(rt, c),
+        b't' => singles::tick(rt, c),
+        b'f' => singles::fresh(rt, c),
+        b's' => runs::single(rt, text, l, c),
+        b'l' => runs::list(rt, text, l, c),
+        b'a' => runs::whole(rt, c),
+        b'p' => runs::plain(rt, text, l, c),
+        b'h' => runs::halves(rt, c),
+        b'u' => runs::unshown(rt, text, l, c),
+        _ => Ok(()),
     }
 }
 
 // The case of a line. A comment, an empty line and what later lines go by are none. Of a list of single calls each call has its own line, and the list none.
-fn one_line(text: &[u8], l: Line) {
+fn one_line(rt: &impl Print, text: &[u8], l: Line) -> io::Result<()> {
     if l.letter < b'a' {
-        return;
+        return Ok(());
     }
     let c = laid_out(text, l);
     if l.letter != b's' {
-        script::name(text, l, c.own);
-        words(b":");
+        script::name(rt, text, l, c.own)?;
+        words(rt, b":")?;
     }
-    answer(text, l, c);
+    answer(rt, text, l, c)
 }
 
-fn every_line(text: &[u8]) {
+fn every_line(rt: &impl Print, text: &[u8]) -> io::Result<()> {
     let mut l = Line {
         letter: 0,
         name: 0,
@@ -114,12 +114,13 @@ fn every_line(text: &[u8]) {
     };
     while l.next < text.len() {
         l = script::next_line(text, l);
-        one_line(text, l);
+        one_line(rt, text, l)?;
     }
+    Ok(())
 }
 
-fn main() {
-    let mut text = io::large_buffer();
-    let count = io::read_full(STDIN_FILENO, &mut text);
-    every_line(&text[..count]);
+fn main(rt: HostRuntime) -> io::Result<()> {
+    let mut text = [0u8; 65536];
+    let count = script::read(&mut rt.stdin(), &mut text)?;
+    every_line(&rt, &text[..count])
 }

@@ -5,6 +5,7 @@ use super::{Case, end_line, least, number, number_at, same, singles, words};
 use policy::Policy;
 use script::{Line, List};
 use state::State;
+use std::io;
 
 // What every number of a log is before a run.
 const MARKER: u32 = 7777;
@@ -59,74 +60,77 @@ pub(crate) fn state_of(p: Policy, trace: List) -> State {
 }
 
 // A run's status, and whether the state is as it was.
-fn ran(before: State, made: Run) {
-    number(made.status);
-    singles::stands(before, made.state);
+fn ran(rt: &impl Print, before: State, made: Run) -> io::Result<()> {
+    number(rt, made.status)?;
+    singles::stands(rt, before, made.state)
 }
 
 // The name and a line's number.
-fn label(text: &[u8], l: Line, c: Case, at: usize) {
-    script::name(text, l, c.own);
-    script::spaced(at);
-    words(b":");
+fn label(rt: &impl Print, text: &[u8], l: Line, c: Case, at: usize) -> io::Result<()> {
+    script::name(rt, text, l, c.own)?;
+    script::spaced(rt, at)?;
+    words(rt, b":")
 }
 
 // A number of a log that is printed by lines.
-fn cell(text: &[u8], l: Line, c: Case, at: usize, value: u32) {
+fn cell(rt: &impl Print, text: &[u8], l: Line, c: Case, at: usize, value: u32) -> io::Result<()> {
     if at % 4 == 0 {
-        label(text, l, c, at / 4);
+        label(rt, text, l, c, at / 4)?;
     }
-    number(value);
+    number(rt, value)?;
     if at % 4 == 3 {
-        end_line();
+        end_line(rt)?;
     }
+    Ok(())
 }
 
 // A log by lines, four numbers to a line.
-fn rows(text: &[u8], l: Line, c: Case, log: List) {
+fn rows(rt: &impl Print, text: &[u8], l: Line, c: Case, log: List) -> io::Result<()> {
     let mut at = 0;
     while at < log.count {
-        cell(text, l, c, at, number_at(log, at));
+        cell(rt, text, l, c, at, number_at(log, at))?;
         at += 1;
     }
+    Ok(())
 }
 
 // The numbers of a log, one after the other.
-fn print(log: List) {
+fn print(rt: &impl Print, log: List) -> io::Result<()> {
     let mut at = 0;
     while at < log.count {
-        number(number_at(log, at));
+        number(rt, number_at(log, at))?;
         at += 1;
     }
+    Ok(())
 }
 
 // A run, and its log by lines.
-pub(crate) fn list(text: &[u8], l: Line, c: Case) {
+pub(crate) fn list(rt: &impl Print, text: &[u8], l: Line, c: Case) -> io::Result<()> {
     let trace = c.trace;
     let made = run_of(c.policy, c.state, trace, 0, 4 * least(trace.count, 40));
-    ran(c.state, made);
-    end_line();
-    rows(text, l, c, made.log);
+    ran(rt, c.state, made)?;
+    end_line(rt)?;
+    rows(rt, text, l, c, made.log)
 }
 
 // A run over as many numbers of the trace, with a log of as many, and its whole log on its line: TRACE LOG.
-pub(crate) fn whole(c: Case) {
+pub(crate) fn whole(rt: &impl Print, c: Case) -> io::Result<()> {
     let mut trace = c.trace;
     trace.count = number_at(c.own, 0) as usize;
     let room = number_at(c.own, 1) as usize;
     let made = run_of(c.policy, c.state, trace, 0, room);
-    ran(c.state, made);
-    words(b", log");
-    print(made.log);
-    end_line();
+    ran(rt, c.state, made)?;
+    words(rt, b", log")?;
+    print(rt, made.log)?;
+    end_line(rt)
 }
 
 // A run over 40 numbers in one piece, its status and its log by lines.
-pub(crate) fn plain(text: &[u8], l: Line, c: Case) {
+pub(crate) fn plain(rt: &impl Print, text: &[u8], l: Line, c: Case) -> io::Result<()> {
     let one = run_of(c.policy, c.state, c.trace, 0, 160);
-    number(one.status);
-    end_line();
-    rows(text, l, c, one.log);
+    number(rt, one.status)?;
+    end_line(rt)?;
+    rows(rt, text, l, c, one.log)
 }
 
 // Whether the numbers of a list stand in another, from a place of it on.
@@ -144,16 +148,16 @@ fn stands_in(list: List, all: List, from: usize) -> bool {
 }
 
 // Whether two ways to make the same calls lead to one state and one log.
-fn agree(same: bool) {
+fn agree(rt: &impl Print, same: bool) -> io::Result<()> {
     if same {
-        words(b" the same state, the same log\n");
+        words(rt, b" the same state, the same log\n")
     } else {
-        words(b" another state or another log\n");
+        words(rt, b" another state or another log\n")
     }
 }
 
 // Two runs that meet at a place, beside the run in one piece: PLACE.
-pub(crate) fn halves(c: Case) {
+pub(crate) fn halves(rt: &impl Print, c: Case) -> io::Result<()> {
     let place = least(number_at(c.own, 0) as usize, 40);
     let written = 4 * place;
     let mut start = c.trace;
@@ -162,10 +166,11 @@ pub(crate) fn halves(c: Case) {
     let second = run_of(c.policy, first.state, c.trace, place, 160 - written);
     let one = run_of(c.policy, c.state, c.trace, 0, 160);
     agree(
+        rt,
         same::same_state(one.state, second.state)
             & stands_in(first.log, one.log, 0)
             & stands_in(second.log, one.log, written),
-    );
+    )
 }
 
 // A list with a number more, where there is room.
@@ -188,15 +193,24 @@ fn with_call(log: List, made: Called) -> List {
 }
 
 // A single call's line, if it is to be shown.
-fn call_line(text: &[u8], l: Line, c: Case, at: usize, before: State, made: Called) {
+fn call_line(
+    rt: &impl Print,
+    text: &[u8],
+    l: Line,
+    c: Case,
+    at: usize,
+    before: State,
+    made: Called,
+) -> io::Result<()> {
     if l.letter == b's' {
-        label(text, l, c, at);
-        singles::show(before, made);
+        label(rt, text, l, c, at)?;
+        singles::show(rt, before, made)?;
     }
+    Ok(())
 }
 
 // The calls of a trace one after the other, with a line for each if they are to be shown, and what a run over them is to answer.
-fn singly(text: &[u8], l: Line, c: Case) -> Run {
+fn singly(rt: &impl Print, text: &[u8], l: Line, c: Case) -> io::Result<Run> {
     let trace = c.trace;
     let mut log = List {
         at: [MARKER; 160],
@@ -206,31 +220,33 @@ fn singly(text: &[u8], l: Line, c: Case) -> Run {
     let mut at = 0;
     while at < trace.count {
         let made = singles::call_of(c.policy, state, number_at(trace, at));
-        call_line(text, l, c, at, state, made);
+        call_line(rt, text, l, c, at, state, made)?;
         log = with_call(log, made);
         state = made.state;
         at += 1;
     }
-    Run {
+    Ok(Run {
         status: 0,
         state,
         log,
-    }
+    })
 }
 
-pub(crate) fn single(text: &[u8], l: Line, c: Case) {
-    let _ = singly(text, l, c);
+pub(crate) fn single(rt: &impl Print, text: &[u8], l: Line, c: Case) -> io::Result<()> {
+    let _ = singly(rt, text, l, c)?;
+    Ok(())
 }
 
 // The single calls, beside the run in one piece.
-pub(crate) fn unshown(text: &[u8], l: Line, c: Case) {
+pub(crate) fn unshown(rt: &impl Print, text: &[u8], l: Line, c: Case) -> io::Result<()> {
     let one = run_of(c.policy, c.state, c.trace, 0, 160);
-    let made = singly(text, l, c);
+    let made = singly(rt, text, l, c)?;
     let whole = one.log;
     let log = made.log;
     agree(
+        rt,
         same::same_state(one.state, made.state)
             & (log.count == whole.count)
             & stands_in(log, whole, 0),
-    );
+    )
 }

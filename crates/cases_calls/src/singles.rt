@@ -4,6 +4,7 @@ use super::{Case, end_line, number, number_at, same, words};
 use policy::Policy;
 use requests::Request;
 use state::State;
+use std::io;
 
 // What a call answers: its four log numbers, and the state after it.
 #[derive(Clone, Copy)]
@@ -16,24 +17,24 @@ pub(crate) struct Called {
 }
 
 // Whether the state that a call handed back is the one that it was given.
-pub(crate) fn stands(before: State, after: State) {
+pub(crate) fn stands(rt: &impl Print, before: State, after: State) -> io::Result<()> {
     if same::same_state(before, after) {
-        words(b", as it was");
+        words(rt, b", as it was")
     } else {
-        words(b", changed");
+        words(rt, b", changed")
     }
 }
 
 // The four log numbers, for a refused call whether the state is as it was, and the line's end.
-pub(crate) fn show(before: State, made: Called) {
-    number(made.status);
-    number(made.command);
-    number(made.response);
-    number(made.turn);
+pub(crate) fn show(rt: &impl Print, before: State, made: Called) -> io::Result<()> {
+    number(rt, made.status)?;
+    number(rt, made.command)?;
+    number(rt, made.response)?;
+    number(rt, made.turn)?;
     if made.status != 0 {
-        stands(before, made.state);
+        stands(rt, before, made.state)?;
     }
-    end_line();
+    end_line(rt)
 }
 
 fn tick_of(p: Policy, s: State) -> Called {
@@ -82,7 +83,7 @@ pub(crate) fn call_of(p: Policy, s: State, word: u32) -> Called {
 }
 
 // CLASS RANK KIND BANK TAG.
-pub(crate) fn offer(c: Case) {
+pub(crate) fn offer(rt: &impl Print, c: Case) -> io::Result<()> {
     let r = Request {
         class: number_at(c.own, 0),
         kind: number_at(c.own, 2),
@@ -90,19 +91,19 @@ pub(crate) fn offer(c: Case) {
         rank: number_at(c.own, 1),
         tag: (number_at(c.own, 4) % 65536) as u16,
     };
-    show(c.state, offer_of(c.policy, c.state, r));
+    show(rt, c.state, offer_of(c.policy, c.state, r))
 }
 
-pub(crate) fn tick(c: Case) {
-    show(c.state, tick_of(c.policy, c.state));
+pub(crate) fn tick(rt: &impl Print, c: Case) -> io::Result<()> {
+    show(rt, c.state, tick_of(c.policy, c.state))
 }
 
 // What asking a fresh state of a policy answers.
-pub(crate) fn fresh(c: Case) {
+pub(crate) fn fresh(rt: &impl Print, c: Case) -> io::Result<()> {
     let made = state::fresh(c.policy);
-    number(made.status);
+    number(rt, made.status)?;
     if same::all_zeros(made.state) {
-        words(b", all zeros");
+        words(rt, b", all zeros")?;
     }
-    end_line();
+    end_line(rt)
 }

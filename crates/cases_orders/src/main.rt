@@ -5,16 +5,16 @@
 
 ghost use Rattle.std.specs.Prelude.{◌≤◌};
 
-use libc::{STDIN_FILENO, STDOUT_FILENO};
 use orders::Fetched;
 use policy::Policy;
 use script::{Line, List};
+use std::io;
 
 // What stands in a slice before a call writes into it.
 const MARKER: u8 = 99;
 
-fn words(text: &[u8]) {
-    io::write_all(STDOUT_FILENO, text);
+fn words(rt: &impl Print, text: &[u8]) -> io::Result<()> {
+    rt.write_all(text)
 }
 
 fn least(a: usize, b: usize) -> usize
@@ -39,35 +39,38 @@ fn bytes_of(list: List) -> [u8; 96] {
     bytes
 }
 
-fn print_sets(sets: [u16; 16]) {
+fn print_sets(rt: &impl Print, sets: [u16; 16]) -> io::Result<()> {
     let mut i = 0;
     while i < 16 {
-        script::spaced(sets[i] as usize);
+        script::spaced(rt, sets[i] as usize)?;
         i += 1;
     }
+    Ok(())
 }
 
-fn print_numbers(numbers: [u32; 16]) {
+fn print_numbers(rt: &impl Print, numbers: [u32; 16]) -> io::Result<()> {
     let mut i = 0;
     while i < 16 {
-        script::spaced(numbers[i] as usize);
+        script::spaced(rt, numbers[i] as usize)?;
         i += 1;
     }
+    Ok(())
 }
 
-fn spaced(byte: u8) {
-    script::spaced(byte as usize);
+fn spaced(rt: &impl Print, byte: u8) -> io::Result<()> {
+    script::spaced(rt, byte as usize)
 }
 
 // The first bytes, as many as are asked for.
-fn print_bytes(bytes: [u8; 96], count: usize) {
+fn print_bytes(rt: &impl Print, bytes: [u8; 96], count: usize) -> io::Result<()> {
     let mut i = 0;
     while i < 96 {
         if i < count {
-            spaced(bytes[i]);
+            spaced(rt, bytes[i])?;
         }
         i += 1;
     }
+    Ok(())
 }
 
 // The order that a line names: N PLACE SIZE, with so many bytes of the timing.
@@ -78,82 +81,82 @@ fn fetched(timing: List, own: List) -> Fetched {
 }
 
 // An order: the status, and of its policy's numbers the classes, the rows, the turns and a few of the timing. A file case shows them all.
-fn order(timing: List, own: List) {
+fn order(rt: &impl Print, timing: List, own: List) -> io::Result<()> {
     let answer = fetched(timing, own);
     let p = answer.policy;
     let t = p.timing;
     let rows = p.rows;
     let minimums = p.minimums;
     let caps = p.caps;
-    script::spaced(answer.status as usize);
-    words(b", classes");
-    script::spaced(p.classes);
-    words(b", rows");
-    print_sets(rows);
-    words(b", E");
-    script::spaced(p.epoch as usize);
-    words(b", minimums");
-    print_numbers(minimums);
-    words(b", caps");
-    print_numbers(caps);
-    words(b", turn");
-    script::spaced(t.turn as usize);
-    words(b", ranks");
-    script::spaced(t.ranks as usize);
-    words(b", gap");
-    script::spaced(t.rank as usize);
-    words(b"\n");
+    script::spaced(rt, answer.status as usize)?;
+    words(rt, b", classes")?;
+    script::spaced(rt, p.classes)?;
+    words(rt, b", rows")?;
+    print_sets(rt, rows)?;
+    words(rt, b", E")?;
+    script::spaced(rt, p.epoch as usize)?;
+    words(rt, b", minimums")?;
+    print_numbers(rt, minimums)?;
+    words(rt, b", caps")?;
+    print_numbers(rt, caps)?;
+    words(rt, b", turn")?;
+    script::spaced(rt, t.turn as usize)?;
+    words(rt, b", ranks")?;
+    script::spaced(rt, t.ranks as usize)?;
+    words(rt, b", gap")?;
+    script::spaced(rt, t.rank as usize)?;
+    words(rt, b"\n")
 }
 
 // A policy written as a file, with room for so many bytes, and the whole slice.
-fn written(p: Policy, room: usize) {
+fn written(rt: &impl Print, p: Policy, room: usize) -> io::Result<()> {
     let mut out = [MARKER; 96];
     let most = least(room, 96);
     let answer = writer::write(p, &mut out[0..most]);
-    script::spaced(answer.status as usize);
-    words(b", size");
-    script::spaced(answer.size);
-    words(b", file");
-    print_bytes(out, most);
-    words(b"\n");
+    script::spaced(rt, answer.status as usize)?;
+    words(rt, b", size")?;
+    script::spaced(rt, answer.size)?;
+    words(rt, b", file")?;
+    print_bytes(rt, out, most)?;
+    words(rt, b"\n")
 }
 
 // The policy of an order, written: N PLACE SIZE ROOM.
-fn file(timing: List, own: List) {
+fn file(rt: &impl Print, timing: List, own: List) -> io::Result<()> {
     let answer = fetched(timing, own);
-    written(answer.policy, number_at(own, 3) as usize);
+    written(rt, answer.policy, number_at(own, 3) as usize)
 }
 
 // The policy that a file holds, written again: ROOM.
-fn again(held: List, own: List) {
+fn again(rt: &impl Print, held: List, own: List) -> io::Result<()> {
     let bytes = bytes_of(held);
     let size = least(held.count, 96);
     let reading = file::read(&bytes[0..size]);
-    script::spaced(reading.status as usize);
-    words(b",");
-    written(reading.policy, number_at(own, 0) as usize);
+    script::spaced(rt, reading.status as usize)?;
+    words(rt, b",")?;
+    written(rt, reading.policy, number_at(own, 0) as usize)
 }
 
 // The case of a line. A comment, an empty line and what later lines go by are none.
-fn one_line(text: &[u8], l: Line) {
+fn one_line(rt: &impl Print, text: &[u8], l: Line) -> io::Result<()> {
     if l.letter < b'a' {
-        return;
+        return Ok(());
     }
     let own = script::numbers(text, l.numbers);
     let timing = script::numbers(text, l.trace);
     let held = script::numbers(text, l.file);
     let letter = l.letter;
-    script::name(text, l, own);
-    words(b":");
+    script::name(rt, text, l, own)?;
+    words(rt, b":")?;
     match letter {
-        b'o' => order(timing, own),
-        b'f' => file(timing, own),
-        b'a' => again(held, own),
-        _ => {}
+        b'o' => order(rt, timing, own),
+        b'f' => file(rt, timing, own),
+        b'a' => again(rt, held, own),
+        _ => Ok(()),
     }
 }
 
-fn every_line(text: &[u8]) {
+fn every_line(rt: &impl Print, text: &[u8]) -> io::Result<()> {
     let mut l = Line {
         letter: 0,
         name: 0,
@@ -166,12 +169,13 @@ fn every_line(text: &[u8]) {
     };
     while l.next < text.len() {
         l = script::next_line(text, l);
-        one_line(text, l);
+        one_line(rt, text, l)?;
     }
+    Ok(())
 }
 
-fn main() {
-    let mut text = io::large_buffer();
-    let count = io::read_full(STDIN_FILENO, &mut text);
-    every_line(&text[..count]);
+fn main(rt: HostRuntime) -> io::Result<()> {
+    let mut text = [0u8; 65536];
+    let count = script::read(&mut rt.stdin(), &mut text)?;
+    every_line(&rt, &text[..count])
 }

@@ -4,6 +4,7 @@ use super::{Case, least, number_at, words};
 use extract::Extracted;
 use policy::Policy;
 use script::{Line, List};
+use std::io;
 
 // What every number of a log or of an extract is before it is written.
 const MARKER: u32 = 7777;
@@ -69,64 +70,80 @@ fn extract_of(p: Policy, whose: Whose, trace: List, log: List, room: usize) -> E
 }
 
 // The status and the count of an extract.
-fn answered(made: Extract) {
-    script::spaced(made.status as usize);
-    words(b", count");
-    script::spaced(made.count);
+fn answered(rt: &impl Print, made: Extract) -> io::Result<()> {
+    script::spaced(rt, made.status as usize)?;
+    words(rt, b", count")?;
+    script::spaced(rt, made.count)
 }
 
 // The numbers of a list, one after the other.
-fn print(list: List) {
+fn print(rt: &impl Print, list: List) -> io::Result<()> {
     let mut at = 0;
     while at < list.count {
-        script::spaced(number_at(list, at) as usize);
+        script::spaced(rt, number_at(list, at) as usize)?;
         at += 1;
     }
+    Ok(())
 }
 
 // An extract for a class or a set, the first of the case's own numbers, of as many numbers of the trace and of the log, with room for as many, and the whole slice on its line:
 // CLASS TRACE LOG ROOM.
-pub(crate) fn sized(c: Case, whose: Whose) {
+pub(crate) fn sized(rt: &impl Print, c: Case, whose: Whose) -> io::Result<()> {
     let mut trace = c.trace;
     trace.count = number_at(c.own, 1) as usize;
     let mut log = c.log;
     log.count = number_at(c.own, 2) as usize;
     let room = number_at(c.own, 3) as usize;
     let made = extract_of(c.policy, whose, trace, log, room);
-    answered(made);
-    words(b", out");
-    print(made.out);
-    words(b"\n");
+    answered(rt, made)?;
+    words(rt, b", out")?;
+    print(rt, made.out)?;
+    words(rt, b"\n")
 }
 
 // A number of a list that is printed four to a line, each line with the name and its own number.
-fn cell(text: &[u8], l: Line, c: Case, at: usize, value: u32) {
+fn cell(rt: &impl Print, text: &[u8], l: Line, c: Case, at: usize, value: u32) -> io::Result<()> {
     if at % 4 == 0 {
-        script::name(text, l, c.own);
-        script::spaced(at / 4);
-        words(b":");
+        script::name(rt, text, l, c.own)?;
+        script::spaced(rt, at / 4)?;
+        words(rt, b":")?;
     }
-    script::spaced(value as usize);
+    script::spaced(rt, value as usize)?;
     if at % 4 == 3 {
-        words(b"\n");
+        words(rt, b"\n")?;
     }
+    Ok(())
 }
 
 // What a class or a set may see of a log, by lines: CLASS.
-pub(crate) fn seen(text: &[u8], l: Line, c: Case, whose: Whose, log: List) {
+pub(crate) fn seen(
+    rt: &impl Print,
+    text: &[u8],
+    l: Line,
+    c: Case,
+    whose: Whose,
+    log: List,
+) -> io::Result<()> {
     let made = extract_of(c.policy, whose, c.trace, log, log.count);
     let out = made.out;
-    answered(made);
-    words(b"\n");
+    answered(rt, made)?;
+    words(rt, b"\n")?;
     let mut at = 0;
     while at < out.count {
-        cell(text, l, c, at, number_at(out, at));
+        cell(rt, text, l, c, at, number_at(out, at))?;
         at += 1;
     }
+    Ok(())
 }
 
 // The same of the log of a run from a fresh state.
-pub(crate) fn seen_of_run(text: &[u8], l: Line, c: Case, whose: Whose) {
+pub(crate) fn seen_of_run(
+    rt: &impl Print,
+    text: &[u8],
+    l: Line,
+    c: Case,
+    whose: Whose,
+) -> io::Result<()> {
     let fresh = state::fresh(c.policy);
     let trace = c.trace;
     let numbers = trace.at;
@@ -141,5 +158,5 @@ pub(crate) fn seen_of_run(text: &[u8], l: Line, c: Case, whose: Whose) {
         at: log,
         count: 160,
     };
-    seen(text, l, c, whose, list);
+    seen(rt, text, l, c, whose, list)
 }

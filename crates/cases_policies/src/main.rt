@@ -7,9 +7,9 @@
 ghost use Rattle.std.specs.Prelude.{◌≤◌};
 
 use extracts::Whose;
-use libc::{STDIN_FILENO, STDOUT_FILENO};
 use policy::Policy;
 use script::{Line, List};
+use std::io;
 
 mod extracts;
 mod policies;
@@ -25,8 +25,8 @@ pub(crate) struct Case {
     pub policy: Policy,
 }
 
-pub(crate) fn words(text: &[u8]) {
-    io::write_all(STDOUT_FILENO, text);
+pub(crate) fn words(rt: &impl Print, text: &[u8]) -> io::Result<()> {
+    rt.write_all(text)
 }
 
 pub(crate) fn least(a: usize, b: usize) -> usize
@@ -64,39 +64,39 @@ fn laid_out(text: &[u8], l: Line) -> Case {
     }
 }
 
-fn answer(text: &[u8], l: Line, c: Case) {
+fn answer(rt: &impl Print, text: &[u8], l: Line, c: Case) -> io::Result<()> {
     let letter = l.letter;
     let first = number_at(c.own, 0);
     match letter {
-        b'r' => policies::read(c.file),
-        b'w' => policies::with(c),
-        b'c' => policies::cut(c),
-        b'i' => policies::in_range(c),
-        b'l' => policies::longest(c),
-        b'x' => extracts::sized(c, Whose::Class(first)),
-        b'g' => extracts::seen(text, l, c, Whose::Class(first), c.log),
-        b'm' => extracts::seen_of_run(text, l, c, Whose::Class(first)),
-        b's' => extracts::sized(c, Whose::Set(first)),
-        b'k' => extracts::seen(text, l, c, Whose::Set(first), c.log),
-        b'n' => extracts::seen_of_run(text, l, c, Whose::Set(first)),
-        b'a' => sets::alone(c),
-        b'b' => sets::below(c),
-        _ => {}
+        b'r' => policies::read(rt, c.file),
+        b'w' => policies::with(rt, c),
+        b'c' => policies::cut(rt, c),
+        b'i' => policies::in_range(rt, c),
+        b'l' => policies::longest(rt, c),
+        b'x' => extracts::sized(rt, c, Whose::Class(first)),
+        b'g' => extracts::seen(rt, text, l, c, Whose::Class(first), c.log),
+        b'm' => extracts::seen_of_run(rt, text, l, c, Whose::Class(first)),
+        b's' => extracts::sized(rt, c, Whose::Set(first)),
+        b'k' => extracts::seen(rt, text, l, c, Whose::Set(first), c.log),
+        b'n' => extracts::seen_of_run(rt, text, l, c, Whose::Set(first)),
+        b'a' => sets::alone(rt, c),
+        b'b' => sets::below(rt, c),
+        _ => Ok(()),
     }
 }
 
 // The case of a line. A comment, an empty line and what later lines go by are none.
-fn one_line(text: &[u8], l: Line) {
+fn one_line(rt: &impl Print, text: &[u8], l: Line) -> io::Result<()> {
     if l.letter < b'a' {
-        return;
+        return Ok(());
     }
     let c = laid_out(text, l);
-    script::name(text, l, c.own);
-    words(b":");
-    answer(text, l, c);
+    script::name(rt, text, l, c.own)?;
+    words(rt, b":")?;
+    answer(rt, text, l, c)
 }
 
-fn every_line(text: &[u8]) {
+fn every_line(rt: &impl Print, text: &[u8]) -> io::Result<()> {
     let mut l = Line {
         letter: 0,
         name: 0,
@@ -109,12 +109,13 @@ fn every_line(text: &[u8]) {
     };
     while l.next < text.len() {
         l = script::next_line(text, l);
-        one_line(text, l);
+        one_line(rt, text, l)?;
     }
+    Ok(())
 }
 
-fn main() {
-    let mut text = io::large_buffer();
-    let count = io::read_full(STDIN_FILENO, &mut text);
-    every_line(&text[..count]);
+fn main(rt: HostRuntime) -> io::Result<()> {
+    let mut text = [0u8; 65536];
+    let count = script::read(&mut rt.stdin(), &mut text)?;
+    every_line(&rt, &text[..count])
 }

@@ -4,6 +4,7 @@ use super::{Case, least, number_at, words};
 use file::Reading;
 use policy::{Bound, Policy};
 use script::List;
+use std::io;
 
 // What reading a list's numbers as the bytes of a file answers.
 pub(crate) fn reading(file: List) -> Reading {
@@ -18,27 +19,27 @@ pub(crate) fn reading(file: List) -> Reading {
 }
 
 // The answer of reading a file, and the line's end.
-pub(crate) fn read(file: List) {
+pub(crate) fn read(rt: &impl Print, file: List) -> io::Result<()> {
     let made = reading(file);
-    script::spaced(made.status as usize);
-    words(b"\n");
+    script::spaced(rt, made.status as usize)?;
+    words(rt, b"\n")
 }
 
 // The file with one byte changed: PLACE BYTE.
-pub(crate) fn with(c: Case) {
+pub(crate) fn with(rt: &impl Print, c: Case) -> io::Result<()> {
     let place = number_at(c.own, 0) as usize;
     let mut file = c.file;
     if place < 160 {
         file.at[place] = number_at(c.own, 1);
     }
-    read(file);
+    read(rt, file)
 }
 
 // The file cut to a length: LENGTH.
-pub(crate) fn cut(c: Case) {
+pub(crate) fn cut(rt: &impl Print, c: Case) -> io::Result<()> {
     let mut file = c.file;
     file.count = number_at(c.own, 0) as usize;
-    read(file);
+    read(rt, file)
 }
 
 // A policy with one number changed. Number of classes, Row, Epoch, Minimum, Board (how many ranks there are), Gap (the rank gap), Cover, Turns (a class's cap).
@@ -94,11 +95,11 @@ pub(crate) fn changed(p: Policy, list: List, from: usize) -> Policy {
 }
 
 // Whether a policy is in range.
-pub(crate) fn in_range(c: Case) {
+pub(crate) fn in_range(rt: &impl Print, c: Case) -> io::Result<()> {
     if policy::in_range(c.policy) {
-        words(b" yes\n");
+        words(rt, b" yes\n")
     } else {
-        words(b" no\n");
+        words(rt, b" no\n")
     }
 }
 
@@ -115,9 +116,9 @@ fn bound(c: Case) -> Bound {
 }
 
 // The same on the case's line, the status first: CLASS.
-pub(crate) fn longest(c: Case) {
+pub(crate) fn longest(rt: &impl Print, c: Case) -> io::Result<()> {
     let answer = bound(c);
-    script::spaced(answer.status as usize);
-    script::spaced(answer.classes as usize);
-    words(b"\n");
+    script::spaced(rt, answer.status as usize)?;
+    script::spaced(rt, answer.classes as usize)?;
+    words(rt, b"\n")
 }

@@ -5,15 +5,15 @@
 
 ghost use Rattle.std.specs.Prelude.{◌≤◌};
 
-use libc::{STDIN_FILENO, STDOUT_FILENO};
 use recordings::{Alone, Recorded, Soundness};
 use script::{Line, List};
+use std::io;
 
 // What stands in a slice before a call writes into it.
 const MARKER: u32 = 7777;
 
-fn words(text: &[u8]) {
-    io::write_all(STDOUT_FILENO, text);
+fn words(rt: &impl Print, text: &[u8]) -> io::Result<()> {
+    rt.write_all(text)
 }
 
 fn least(a: usize, b: usize) -> usize
@@ -36,65 +36,66 @@ fn front(all: &[u32], count: usize) -> &[u32] {
     }
 }
 
-fn spaced(number: u32) {
-    script::spaced(number as usize);
+fn spaced(rt: &impl Print, number: u32) -> io::Result<()> {
+    script::spaced(rt, number as usize)
 }
 
 // Numbers, one after the other.
-fn print(numbers: &[u32]) {
+fn print(rt: &impl Print, numbers: &[u32]) -> io::Result<()> {
     let mut at = 0;
     while at < numbers.len() {
-        spaced(numbers[at]);
+        spaced(rt, numbers[at])?;
         at += 1;
     }
+    Ok(())
 }
 
-fn print_list(list: List) {
+fn print_list(rt: &impl Print, list: List) -> io::Result<()> {
     let numbers = list.at;
-    print(front(&numbers, list.count));
+    print(rt, front(&numbers, list.count))
 }
 
 // Which recording is unsound.
-fn told(sound: Soundness) {
+fn told(rt: &impl Print, sound: Soundness) -> io::Result<()> {
     match sound {
-        Soundness::Sound => words(b" sound"),
-        Soundness::WiresUnsound => words(b" 18 wires"),
-        Soundness::CoresUnsound => words(b" 18 cores"),
+        Soundness::Sound => words(rt, b" sound"),
+        Soundness::WiresUnsound => words(rt, b" 18 wires"),
+        Soundness::CoresUnsound => words(rt, b" 18 cores"),
     }
 }
 
 // The first event without a partner.
-fn found(alone: Alone) {
+fn found(rt: &impl Print, alone: Alone) -> io::Result<()> {
     match alone {
-        Alone::NoEvent => words(b", none"),
+        Alone::NoEvent => words(rt, b", none"),
         Alone::Activate(at) => {
-            words(b", activate");
-            script::spaced(at);
+            words(rt, b", activate")?;
+            script::spaced(rt, at)
         }
         Alone::Response(at) => {
-            words(b", answer");
-            script::spaced(at);
+            words(rt, b", answer")?;
+            script::spaced(rt, at)
         }
     }
 }
 
 // Two recordings held together: whether they are sound, the first event without a partner, and the rest.
-fn held<'a>(wires: &'a [u32], cores: &'a [u32], delay: u8) {
-    told(recordings::unsound(wires, cores, delay));
-    found(recordings::first_alone(wires, cores, delay));
-    words(b", rest");
-    print(recordings::unmatched(wires, cores, delay));
-    words(b"\n");
+fn held<'a>(rt: &impl Print, wires: &'a [u32], cores: &'a [u32], delay: u8) -> io::Result<()> {
+    told(rt, recordings::unsound(wires, cores, delay))?;
+    found(rt, recordings::first_alone(wires, cores, delay))?;
+    words(rt, b", rest")?;
+    print(rt, recordings::unmatched(wires, cores, delay))?;
+    words(rt, b"\n")
 }
 
 // A match of as many numbers of the two recordings: DELAY WIRES CORES.
-fn matched(wires: List, cores: List, own: List) {
+fn matched(rt: &impl Print, wires: List, cores: List, own: List) -> io::Result<()> {
     let at_wires = wires.at;
     let at_cores = cores.at;
     let delay = (number_at(own, 0) % 256) as u8;
     let w = number_at(own, 1) as usize;
     let c = number_at(own, 2) as usize;
-    held(front(&at_wires, w), front(&at_cores, c), delay);
+    held(rt, front(&at_wires, w), front(&at_cores, c), delay)
 }
 
 fn made(activates: bool, trace: &[u32], log: &[u32], start: u32, out: &mut [u32]) -> Recorded {
@@ -106,7 +107,7 @@ fn made(activates: bool, trace: &[u32], log: &[u32], start: u32, out: &mut [u32]
 }
 
 // A recording of as many numbers of the trace and of the log, with room for as many, and the whole slice on its line: START TRACE LOG ROOM.
-fn recorded(activates: bool, trace: List, log: List, own: List) {
+fn recorded(rt: &impl Print, activates: bool, trace: List, log: List, own: List) -> io::Result<()> {
     let numbers = trace.at;
     let logged = log.at;
     let mut out = [MARKER; 160];
@@ -120,38 +121,38 @@ fn recorded(activates: bool, trace: List, log: List, own: List) {
         number_at(own, 0),
         &mut out[0..most],
     );
-    script::spaced(answer.status as usize);
-    words(b", count");
-    script::spaced(answer.count);
-    words(b", out");
+    script::spaced(rt, answer.status as usize)?;
+    words(rt, b", count")?;
+    script::spaced(rt, answer.count)?;
+    words(rt, b", out")?;
     let whole = List {
         at: out,
         count: most,
     };
-    print_list(whole);
-    words(b"\n");
+    print_list(rt, whole)?;
+    words(rt, b"\n")
 }
 
 // The case of a line. A comment, an empty line and what later lines go by are none.
-fn one_line(text: &[u8], l: Line) {
+fn one_line(rt: &impl Print, text: &[u8], l: Line) -> io::Result<()> {
     if l.letter < b'a' {
-        return;
+        return Ok(());
     }
     let own = script::numbers(text, l.numbers);
     let trace = script::numbers(text, l.trace);
     let log = script::numbers(text, l.log);
     let letter = l.letter;
-    script::name(text, l, own);
-    words(b":");
+    script::name(rt, text, l, own)?;
+    words(rt, b":")?;
     match letter {
-        b'm' => matched(trace, log, own),
-        b'w' => recorded(true, trace, log, own),
-        b'c' => recorded(false, trace, log, own),
-        _ => {}
+        b'm' => matched(rt, trace, log, own),
+        b'w' => recorded(rt, true, trace, log, own),
+        b'c' => recorded(rt, false, trace, log, own),
+        _ => Ok(()),
     }
 }
 
-fn every_line(text: &[u8]) {
+fn every_line(rt: &impl Print, text: &[u8]) -> io::Result<()> {
     let mut l = Line {
         letter: 0,
         name: 0,
@@ -164,12 +165,13 @@ fn every_line(text: &[u8]) {
     };
     while l.next < text.len() {
         l = script::next_line(text, l);
-        one_line(text, l);
+        one_line(rt, text, l)?;
     }
+    Ok(())
 }
 
-fn main() {
-    let mut text = io::large_buffer();
-    let count = io::read_full(STDIN_FILENO, &mut text);
-    every_line(&text[..count]);
+fn main(rt: HostRuntime) -> io::Result<()> {
+    let mut text = [0u8; 65536];
+    let count = script::read(&mut rt.stdin(), &mut text)?;
+    every_line(&rt, &text[..count])
 }

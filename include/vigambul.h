@@ -1,6 +1,6 @@
 /* Vigambul for C: the proved model of the lattice priority controller, on numbers and slices.
  *
- * Link target/staticlib/libcapi.a (rt staticlib capi). A slice is a pointer and then its number of elements; a slice of no elements may have any pointer. What is
+ * Link crates/capi/out/libcapi.a (rt lib in crates/capi). A slice is a pointer and then its number of elements; a slice of no elements may have any pointer. What is
  * lent for writing overlaps nothing else that is lent to the same call. A call keeps nothing of what it was lent, holds no state of its own, and always returns.
  */
 #ifndef VIGAMBUL_H

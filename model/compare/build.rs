@@ -13,7 +13,7 @@ fn main() {
     println!("cargo:rerun-if-changed={}", archive.display());
     if !archive.is_file() {
         eprintln!(
-            "the library {} is missing: run `rt staticlib capi` first",
+            "the library {} is missing: run `rt lib` in crates/capi first",
             archive.display()
         );
         exit(1);
@@ -35,6 +35,6 @@ fn main() {
 fn archive() -> PathBuf {
     match std::env::var_os("VIGAMBUL_LIBRARY") {
         Some(path) => PathBuf::from(path),
-        None => Path::new(env!("CARGO_MANIFEST_DIR")).join("../../target/staticlib/libcapi.a"),
+        None => Path::new(env!("CARGO_MANIFEST_DIR")).join("../../crates/capi/out/libcapi.a"),
     }
 }

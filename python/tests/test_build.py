@@ -13,11 +13,12 @@ from vigambul import build
 from vigambul.errors import Wrong
 
 RT = """#!/bin/sh
-echo "$@" >> "$LOG"
-mkdir -p target/bin target/staticlib
+echo "$@ in ${PWD##*/}" >> "$LOG"
+mkdir -p out
+proved() { echo "rt: chose --jobs 2 for $1"; echo "fn $1::f: proved"; echo "logic=proved functions=1"; }
 case $1 in
-check) echo "rt: policy proved (1 s)"; sleep 0.3; echo "rt: capi proved (2 s)"; echo "rt: vigambul proved (3 s)"; echo program > target/bin/vigambul;;
-staticlib) echo archive > target/staticlib/libcapi.a;;
+lib) proved policy; sleep 0.3; proved capi; echo archive > out/libcapi.a;;
+run) proved vigambul; echo program > out/vigambul;;
 esac
 exit "${RT_STATUS:-0}"
 """
@@ -32,7 +33,7 @@ class FirstCall(unittest.TestCase):
         room = tempfile.TemporaryDirectory()
         self.addCleanup(room.cleanup)
         self.root = Path(room.name)
-        (self.root / "crates.txt").write_text("policy:\ncapi: policy\nvigambul: policy io\n")
+        (self.root / "crates.txt").write_text("policy:\ncapi staticlib: policy\nvigambul: policy anyhow\n")
         for name in ("policy", "capi", "vigambul"):
             (self.root / "crates" / name).mkdir(parents=True)
             (self.root / "crates" / name / "lib.rt").write_text(name)
@@ -65,10 +66,10 @@ class FirstCall(unittest.TestCase):
     def test_builds_what_is_missing_and_no_more(self):
         lines = self.ensure().splitlines()
         self.assertEqual(lines[0], "building the proved library and program, some minutes the first time")
-        steps = ["1 of 3 crates: policy proved (1 s)", "2 of 3 crates: capi proved (2 s)", "3 of 3 crates: vigambul proved (3 s)"]
+        steps = ["%d of at most 3 crates proved: now %s" % (done + proved, name) for done, name in enumerate(("policy", "capi", "vigambul")) for proved in (0, 1)]
         self.assertEqual([line.partition(", ")[0] for line in lines[1:]], steps)
         self.assertEqual((build.SHARED.read_text(), build.PROGRAM.read_text()), ("library\n", "program\n"))
-        self.assertEqual(self.asked(), ["check capi vigambul", "staticlib capi"])
+        self.assertEqual(self.asked(), ["lib in capi", "run in vigambul"])
         self.assertEqual(self.ensure(), "")
         self.assertEqual(len(self.asked()), 2)
 
@@ -81,7 +82,7 @@ class FirstCall(unittest.TestCase):
     def test_what_fails_leaves_nothing_that_looks_built(self):
         with mock.patch.dict(os.environ, {"RT_STATUS": "1"}), self.assertRaises(Wrong) as failed:
             self.ensure()
-        self.assertIn("rt check capi vigambul failed; %s has what it said" % (build.BUILT / "build.log"), str(failed.exception))
+        self.assertIn("rt lib in crates/capi failed; %s has what it said" % (build.BUILT / "build.log"), str(failed.exception))
         self.assertFalse(build.SHARED.exists() or build.STAMP.exists())
 
     def test_without_rt(self):
@@ -89,7 +90,7 @@ class FirstCall(unittest.TestCase):
         with mock.patch.object(build.shutil, "which", lambda name: None), self.assertRaisesRegex(Wrong, "rt is not on the path"):
             self.ensure()
         self.ensure()
-        (self.root / "crates.txt").write_text("policy:\ncapi: policy\nvigambul: policy\n")
+        (self.root / "crates.txt").write_text("policy:\ncapi staticlib: policy\nvigambul: policy\n")
         with mock.patch.object(build.shutil, "which", lambda name: None):
             self.assertIn("the library is used as it is", self.ensure())
 
@@ -101,5 +102,5 @@ class FirstCall(unittest.TestCase):
                 call.start()
             for call in calls:
                 call.join()
-        self.assertEqual(self.asked(), ["check capi vigambul", "staticlib capi"])
+        self.assertEqual(self.asked(), ["lib in capi", "run in vigambul"])
         self.assertIn("another call is building the proved library; this one waits for it", err.getvalue())

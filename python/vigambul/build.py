@@ -1,10 +1,11 @@
-"""Finds the proved library and the proved program, and builds what is missing or older than its sources. Progress goes to standard error: which crate, how far, how long.
+"""Finds the proved library and the proved program, and builds what is missing or older than its sources. Progress goes to standard error: which crate, how many were proved, how long.
 Where they are built already the Rattle kit is not needed."""
 
 import fcntl
 import functools
 import hashlib
 import os
+import re
 import shutil
 import subprocess
 import sys
@@ -23,6 +24,9 @@ PROGRAM = BUILT / "vigambul"
 STAMP = BUILT / "sources"
 CRATES = ("capi", "vigambul")
 
+# What rt says as it begins with a crate.
+BEGUN = re.compile(r"rt: chose --jobs \d+ for (\w+)$")
+
 
 def dependencies():
     """The crates of the repository with those that each rests on."""
@@ -30,7 +34,7 @@ def dependencies():
     for line in (ROOT / "crates.txt").read_text().splitlines():
         name, colon, rest = line.partition("#")[0].partition(":")
         if colon:
-            found[name.strip()] = rest.split()
+            found[name.split()[0]] = rest.split()
     return {name: [other for other in rests if other in found] for name, rests in found.items()}
 
 
@@ -59,7 +63,7 @@ class Progress:
     """Says on standard error what is being built. On a terminal one line is written over and over; else each step is a line."""
 
     def __init__(self, total):
-        self.total, self.done, self.doing, self.began = total, 0, "the first is being proved", time.monotonic()
+        self.total, self.done, self.doing, self.began = total, 0, "the sources are being read", time.monotonic()
         self.over = threading.Event()
         self.terminal = sys.stderr.isatty()
         self.ticker = threading.Thread(target=self._tick, daemon=True)
@@ -71,13 +75,18 @@ class Progress:
                 self._show()
 
     def _show(self):
-        line = "%d of %d crates: %s, %d s in all" % (self.done, self.total, self.doing, time.monotonic() - self.began)
+        line = "%d of at most %d crates proved: %s, %d s in all" % (self.done, self.total, self.doing, time.monotonic() - self.began)
         sys.stderr.write("\r\033[K" + line if self.terminal else line + "\n")
         sys.stderr.flush()
 
-    def step(self, what):
-        """One crate more; what was said of it."""
-        self.done, self.doing = self.done + 1, what
+    def told(self, line):
+        """Looks at a line that rt says: it names a crate as it begins with it, and says of each in the end whether it is proved. Of a crate that is built already it says neither."""
+        if begun := BEGUN.match(line):
+            self.doing = "now %s" % begun[1]
+        elif line.startswith("logic=proved "):
+            self.done += 1
+        else:
+            return
         self._show()
 
     def end(self):
@@ -87,15 +96,15 @@ class Progress:
             sys.stderr.write("\r\033[K")
 
 
-def _rt(words, progress, log):
-    """Runs rt, hands its 'proved' lines to the progress, and keeps what it says."""
-    with subprocess.Popen(["rt", *words], cwd=ROOT, stdin=subprocess.DEVNULL, stdout=subprocess.PIPE, stderr=subprocess.STDOUT, text=True) as run:
+def _rt(verb, name, progress, log):
+    """Runs rt in the folder of a crate, hands its lines to the progress, and keeps what it says. It proves and builds what the crate rests on too, where that is not done."""
+    folder = ROOT / "crates" / name
+    with subprocess.Popen(["rt", verb], cwd=folder, stdin=subprocess.DEVNULL, stdout=subprocess.PIPE, stderr=subprocess.STDOUT, text=True) as run:
         for line in run.stdout:
             log.write(line)
-            if progress and line.startswith("rt: ") and " proved (" in line:
-                progress.step(line[len("rt: ") :].strip())
+            progress.told(line)
     if run.returncode != 0:
-        raise Wrong("rt %s failed; %s has what it said" % (" ".join(words), log.name))
+        raise Wrong("rt %s in crates/%s failed; %s has what it said" % (verb, name, log.name))
 
 
 def _is_built():
@@ -133,16 +142,16 @@ def _build_alone():
     progress = Progress(len(needed()))
     try:
         with open(BUILT / "build.log", "w") as log:
-            _rt(["check", *CRATES], progress, log)
-            progress.doing = "the library is being linked"
-            _rt(["staticlib", "capi"], None, log)
-            archive = ROOT / "target" / "staticlib" / "libcapi.a"
+            _rt("lib", "capi", progress, log)
+            # It runs the program too, which answers a folder without files with a line.
+            _rt("run", "vigambul", progress, log)
+            archive = ROOT / "crates" / "capi" / "out" / "libcapi.a"
             link = ["gcc", "-shared", "-o", shared, "-Wl,--whole-archive", archive, "-Wl,--no-whole-archive"]
             if subprocess.run(link, stdout=log, stderr=log, check=False).returncode != 0:
                 raise Wrong("gcc could not link %s; %s has what it said" % (archive, log.name))
     finally:
         progress.end()
-    shutil.copy2(ROOT / "target" / "bin" / "vigambul", program)
+    shutil.copy2(ROOT / "crates" / "vigambul" / "out" / "vigambul", program)
     # Each is put in its place in one step: a call that uses the old one meanwhile keeps that.
     os.replace(shared, SHARED)
     os.replace(program, PROGRAM)

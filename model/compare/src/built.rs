@@ -8,7 +8,7 @@ use std::path::{Path, PathBuf};
 pub fn program() -> PathBuf {
     let path = match std::env::var_os("VIGAMBUL_PROGRAM") {
         Some(path) => PathBuf::from(path),
-        None => Path::new(env!("CARGO_MANIFEST_DIR")).join("../../target/bin/vigambul"),
+        None => Path::new(env!("CARGO_MANIFEST_DIR")).join("../../crates/vigambul/out/vigambul"),
     };
     // Tests start it in other folders, so a path from here would not do.
     match path.canonicalize() {

@@ -39,8 +39,8 @@ fn text(bytes: &[u8]) -> String {
     String::from_utf8_lossy(bytes).into_owned()
 }
 
-/// Lines of rt, of crates that were proved before.
-const UNCHANGED: &str = "rt: basics proved (unchanged since it was last proved)\\nrt: order proved (unchanged since it was last proved)\\n";
+/// What rt says where all is proved and built, and of the program, which it runs.
+const UNCHANGED: &str = "rt: nothing has changed since the last proved build, by out/vigambul.stamp, so nothing is checked now\\npolicy refused 1\\n";
 
 /// One after the other: each has a folder for its stand-in, and all write one log.
 #[test]
@@ -57,18 +57,19 @@ fn the_script_that_runs_an_example_says_how_it_went() {
 
     // How far the proofs are is told beside that.
     let folder = examples().join("two-tenants");
-    let lines = format!("{UNCHANGED}fn policy::cap: proved\\nrt: policy proved (14 s)\\nrt: ok\\n");
-    let output = run_example(&[&folder], &lines, 0);
+    let lines = "rt: chose --jobs 2 for policy\\nfn policy::cap: proved\\nlogic=proved functions=1\\npolicy refused 1\\n";
+    let output = run_example(&[&folder], lines, 0);
     let told = text(&output.stderr);
-    assert!(told.starts_with("proved policy, 3 of "), "{told}");
-    assert!(told.contains(" (14 s; "), "{told}");
+    assert!(told.starts_with("proved policy, 1 of at most "), "{told}");
+    assert!(told.ends_with(" s so far)\n"), "{told}");
     assert_eq!(told.lines().count(), 1, "{told}");
     assert_eq!(output.status.code(), Some(0));
 
     // A proof that fails.
-    let output = run_example(&[&folder], "rt: FAILED: policy\\n", 1);
+    let failed = "rt: the library policy did not build, so nothing above it was checked\\n";
+    let output = run_example(&[&folder], failed, 1);
     assert_eq!(text(&output.stdout), "");
-    assert!(text(&output.stderr).starts_with("rt: FAILED: policy\n"));
+    assert!(text(&output.stderr).starts_with("rt: the library policy did not build"));
     assert_eq!(output.status.code(), Some(3));
 
     // Wrong usage, and what is missing, by its name.

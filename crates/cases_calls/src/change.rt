@@ -12,10 +12,8 @@ use timing::Timing;
 // The policy that reading a list's numbers as the bytes of a file gives.
 pub(crate) fn policy_of(file: List) -> Policy {
     let mut bytes = [0u8; 160];
-    let mut at = 0;
-    while at < 160 {
+    for at in 0..160 {
         bytes[at] = (file.at[at] % 256) as u8;
-        at += 1;
     }
     let count = least(file.count, 160);
     let reading = file::read(&bytes[0..count]);

@@ -86,20 +86,16 @@ fn cell(rt: &impl Print, text: &[u8], l: Line, c: Case, at: usize, value: u32) -
 
 // A log by lines, four numbers to a line.
 fn rows(rt: &impl Print, text: &[u8], l: Line, c: Case, log: List) -> io::Result<()> {
-    let mut at = 0;
-    while at < log.count {
+    for at in 0..log.count {
         cell(rt, text, l, c, at, number_at(log, at))?;
-        at += 1;
     }
     Ok(())
 }
 
 // The numbers of a log, one after the other.
 fn print(rt: &impl Print, log: List) -> io::Result<()> {
-    let mut at = 0;
-    while at < log.count {
+    for at in 0..log.count {
         number(rt, number_at(log, at))?;
-        at += 1;
     }
     Ok(())
 }
@@ -137,12 +133,10 @@ pub(crate) fn plain(rt: &impl Print, text: &[u8], l: Line, c: Case) -> io::Resul
 fn stands_in(list: List, all: List, from: usize) -> bool {
     let start = least(from, 160);
     let end = least(list.count, 160);
-    let mut at = 0;
-    while at < end {
+    for at in 0..end {
         if number_at(list, at) != number_at(all, start + at) {
             return false;
         }
-        at += 1;
     }
     true
 }
@@ -217,13 +211,11 @@ fn singly(rt: &impl Print, text: &[u8], l: Line, c: Case) -> io::Result<Run> {
         count: 0,
     };
     let mut state = c.state;
-    let mut at = 0;
-    while at < trace.count {
+    for at in 0..trace.count {
         let made = singles::call_of(c.policy, state, number_at(trace, at));
         call_line(rt, text, l, c, at, state, made)?;
         log = with_call(log, made);
         state = made.state;
-        at += 1;
     }
     Ok(Run {
         status: 0,

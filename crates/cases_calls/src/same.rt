@@ -61,24 +61,20 @@ fn of_state(s: State, at: usize) -> u64 {
 }
 
 pub(crate) fn same_state(a: State, b: State) -> bool {
-    let mut at = 0;
-    while at < 309 {
+    for at in 0..309 {
         if of_state(a, at) != of_state(b, at) {
             return false;
         }
-        at += 1;
     }
     true
 }
 
 // Whether a state is all zeros, as asking a fresh one of an unfit policy hands it back.
 pub(crate) fn all_zeros(s: State) -> bool {
-    let mut at = 0;
-    while at < 309 {
+    for at in 0..309 {
         if of_state(s, at) != 0 {
             return false;
         }
-        at += 1;
     }
     true
 }

@@ -31,28 +31,22 @@ fn number_at(list: List, index: usize) -> u32 {
 // The numbers of a list, as bytes.
 fn bytes_of(list: List) -> [u8; 96] {
     let mut bytes = [0u8; 96];
-    let mut i = 0;
-    while i < 96 {
+    for i in 0..96 {
         bytes[i] = (number_at(list, i) % 256) as u8;
-        i += 1;
     }
     bytes
 }
 
 fn print_sets(rt: &impl Print, sets: [u16; 16]) -> io::Result<()> {
-    let mut i = 0;
-    while i < 16 {
-        script::spaced(rt, sets[i] as usize)?;
-        i += 1;
+    for set in &sets {
+        script::spaced(rt, *set as usize)?;
     }
     Ok(())
 }
 
 fn print_numbers(rt: &impl Print, numbers: [u32; 16]) -> io::Result<()> {
-    let mut i = 0;
-    while i < 16 {
-        script::spaced(rt, numbers[i] as usize)?;
-        i += 1;
+    for number in &numbers {
+        script::spaced(rt, *number as usize)?;
     }
     Ok(())
 }
@@ -63,12 +57,8 @@ fn spaced(rt: &impl Print, byte: u8) -> io::Result<()> {
 
 // The first bytes, as many as are asked for.
 fn print_bytes(rt: &impl Print, bytes: [u8; 96], count: usize) -> io::Result<()> {
-    let mut i = 0;
-    while i < 96 {
-        if i < count {
-            spaced(rt, bytes[i])?;
-        }
-        i += 1;
+    for byte in bytes.iter().take(count) {
+        spaced(rt, *byte)?;
     }
     Ok(())
 }

@@ -78,10 +78,8 @@ fn answered(rt: &impl Print, made: Extract) -> io::Result<()> {
 
 // The numbers of a list, one after the other.
 fn print(rt: &impl Print, list: List) -> io::Result<()> {
-    let mut at = 0;
-    while at < list.count {
+    for at in 0..list.count {
         script::spaced(rt, number_at(list, at) as usize)?;
-        at += 1;
     }
     Ok(())
 }
@@ -128,10 +126,8 @@ pub(crate) fn seen(
     let out = made.out;
     answered(rt, made)?;
     words(rt, b"\n")?;
-    let mut at = 0;
-    while at < out.count {
+    for at in 0..out.count {
         cell(rt, text, l, c, at, number_at(out, at))?;
-        at += 1;
     }
     Ok(())
 }

@@ -9,10 +9,8 @@ use std::io;
 // What reading a list's numbers as the bytes of a file answers.
 pub(crate) fn reading(file: List) -> Reading {
     let mut bytes = [0u8; 160];
-    let mut at = 0;
-    while at < 160 {
+    for at in 0..160 {
         bytes[at] = (file.at[at] % 256) as u8;
-        at += 1;
     }
     let count = least(file.count, 160);
     file::read(&bytes[0..count])

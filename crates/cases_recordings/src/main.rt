@@ -42,10 +42,8 @@ fn spaced(rt: &impl Print, number: u32) -> io::Result<()> {
 
 // Numbers, one after the other.
 fn print(rt: &impl Print, numbers: &[u32]) -> io::Result<()> {
-    let mut at = 0;
-    while at < numbers.len() {
-        spaced(rt, numbers[at])?;
-        at += 1;
+    for number in numbers {
+        spaced(rt, *number)?;
     }
     Ok(())
 }

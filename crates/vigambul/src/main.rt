@@ -200,7 +200,9 @@ fn arguments(rt: &(impl Env + Eprint)) {
     match rt.arg(1, &mut []) {
         Err(FillError::NotPresent) => {}
         Ok(_) | Err(FillError::TooLong) => {
-            let _ = eprintln!(rt; "vigambul takes no arguments: it reads policy.bin and trace.bin in the folder it runs in");
+            let _ = eprintln!(rt;
+                "vigambul takes no arguments: it reads policy.bin and trace.bin in the folder it runs in"
+            );
         }
     }
 }

@@ -3,7 +3,7 @@
 
 #![tactic(auto)]
 
-ghost use Rattle.std.specs.Prelude.{◌*◌, ◌≤◌, length};
+ghost use Rattle.std.specs.Prelude.{◌≡◌, ◌*◌, ◌≤◌, length, take};
 
 use policy::Policy;
 use state::State;
@@ -61,7 +61,7 @@ fn print(rt: &(impl Print + Eprint), bytes: &[u8]) -> bool {
 
 // Reads until the buffer is full or the file ends. Where a read fails, it says so.
 fn fill(rt: &impl Eprint, file: &mut impl Read, name: &str, buffer: &mut [u8]) -> Filled
-    ensures { result.count ≤ length buffer.new }
+    ensures { (result.count ≤ length buffer.new) × (result.count ≡ length (take result.count buffer.new)) }
 {
     let mut count = 0;
     while count < buffer.len() {
@@ -99,7 +99,7 @@ fn open<R: Files + Eprint>(rt: &R, name: &str) -> Opened<R::File> {
 
 // The first bytes of policy.bin. A file of more than 65,535 bytes fills the buffer, and reading refuses it by that.
 fn policy_file(rt: &(impl Files + Eprint), buffer: &mut [u8]) -> Filled
-    ensures { result.count ≤ length buffer.new }
+    ensures { (result.count ≤ length buffer.new) × (result.count ≡ length (take result.count buffer.new)) }
 {
     match open(rt, "policy.bin") {
         Opened::Open(file) => {

@@ -5,7 +5,7 @@ use mathlib.Core.Path.{◌≡◌, refl, sym, ap, ◌∙◌, subst}
 use mathlib.Core.Logic.{⊎_elim}
 use mathlib.Core.Bool.{Bool, true, false, cond}
 use mathlib.Core.List.{List, [], ◌∷◌}
-use Prim.Native.Nat.{ℕ, suc, ◌+◌, ◌-◌, ◌*◌, ◌^◌, ◌≤◌, ◌<◌}
+use Prim.Native.Nat.{ℕ, suc, ◌+◌, ◌*◌, ◌^◌, ◌≤◌, ◌<◌}
 use native.Mathlib.Nat.{lt_of_lt_of_le}
 use native.Mathlib.Omega.{arith}
 use borrow.Author.Tests.{lt-ltb, le-ltb, le-leb, leb-true, eq-eqb, eqb-true}
@@ -16,7 +16,7 @@ use Rattle.masks.specs.Mask.{member}
 use Rattle.order.specs.Order.{is_class_in, flows_in, rows_fit, antisymmetric, transitive, has_least, cover_set}
 use Rattle.turns.specs.Turns.{minimums_sum, turns_sound, cap_in, minimums_below}
 use Rattle.timing.specs.Timing.{within, timing_sound}
-use Rattle.policy.specs.Policy.{made, first_failing, policy_tests, refusal, in_range, minimum}
+use Rattle.policy.specs.Policy.{made, first_failing, policy_tests, refusal, in_range}
 use Rattle.file.specs.File.{byte, word, kind, start, body_size, kinds_fit, bodies_abut, contents_fit, class_count, lengths_fit, row_at, epoch_of, minimum_at, ranks_of, rank_gap_of, timing_of, held, file_tests, status, refused_with, read_file}
 use Rattle.order.specs.Laws.{Reflexive, Antisymmetric, Transitive, Least, SmallClasses}
 use Rattle.file.specs.Taken.{Bytes, SoundTurns, SoundTiming, bits, timing_from, policy_of, Encoded, TakenIff, Form, Lengths, file_order, Rows, conditions, FirstFails, RefusalNumbers}

@@ -1,5 +1,4 @@
 -- `file::bodies_abut` meets its contract: the definition, with what the callees promise.
-use borrow.Author.Rules.{rules}
 use Rattle.file.specs.File.{bodies_abut}
 use Rattle.file.proofs.bodies_abut.Goals as goal
 

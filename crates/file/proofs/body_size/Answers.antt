@@ -1,5 +1,4 @@
 -- `file::body_size` meets its contract: the definition, with what the callees promise.
-use borrow.Author.Rules.{rules}
 use Rattle.file.specs.File.{body_size}
 use Rattle.file.proofs.body_size.Goals as goal
 

@@ -1,5 +1,4 @@
 -- `file::contents_fit` meets its contract: the definition, with what the callees promise.
-use borrow.Author.Rules.{rules}
 use Rattle.timing.specs.Timing.{within}
 use Rattle.file.specs.File.{contents_fit}
 use Rattle.file.proofs.contents_fit.Goals as goal

@@ -1,8 +1,5 @@
 -- `file::covers_in` meets its contract. The invariant: the entries below `i` are filled.
-use Prim.Native.Nat.{◌-◌}
-use borrow.Author.Rules.{rules}
-use Rattle.order.specs.Order.{cover_set}
-use Rattle.basics.proofs.Loops.{Filled, filled_none, filled_more, filled-all}
+use Rattle.basics.proofs.Loops.{filled_none, filled_more, filled-all}
 use Rattle.file.proofs.covers_in.Goals as goal
 
 pub loop-i-init : goal.loop-i-init

@@ -1,5 +1,4 @@
 -- `file::held` meets its contract: the definition, with what the callees promise.
-use borrow.Author.Rules.{rules}
 use Rattle.file.specs.File.{class_count, epoch_of, held}
 use Rattle.file.proofs.held.Goals as goal
 

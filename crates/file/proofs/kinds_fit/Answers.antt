@@ -1,5 +1,4 @@
 -- `file::kinds_fit` meets its contract: the definition, with what the callees promise.
-use borrow.Author.Rules.{rules}
 use Rattle.file.specs.File.{kinds_fit, kind}
 use Rattle.file.proofs.kinds_fit.Goals as goal
 

@@ -1,5 +1,4 @@
 -- `file::lengths_fit` meets its contract: the definition, with what the callees promise.
-use borrow.Author.Rules.{rules}
 use Rattle.timing.specs.Timing.{within}
 use Rattle.file.specs.File.{lengths_fit, class_count}
 use Rattle.file.proofs.lengths_fit.Goals as goal

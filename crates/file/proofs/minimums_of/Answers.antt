@@ -1,8 +1,5 @@
 -- `file::minimums_of` meets its contract. The invariant: the entries below `i` are filled.
-use Prim.Native.Nat.{◌-◌}
-use borrow.Author.Rules.{rules}
-use Rattle.file.specs.File.{minimum_at}
-use Rattle.basics.proofs.Loops.{Filled, filled_none, filled_more, filled-all}
+use Rattle.basics.proofs.Loops.{filled_none, filled_more, filled-all}
 use Rattle.file.proofs.minimums_of.Goals as goal
 
 pub loop-i-init : goal.loop-i-init

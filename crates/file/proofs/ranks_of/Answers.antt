@@ -1,7 +1,6 @@
 -- `file::ranks_of` meets its contract: each branch is the side of the definition that its test picks.
 use mathlib.Core.Path.{◌∙◌}
 use native.Mathlib.Omega.{arith}
-use borrow.Author.Rules.{rules}
 use borrow.Author.Tests.{eq-eqb, ne_eqb}
 use Rattle.file.specs.File.{body_size, ranks_of}
 use Rattle.file.proofs.ranks_of.Goals as goal

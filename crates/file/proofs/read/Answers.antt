@@ -3,11 +3,9 @@ use mathlib.Core.Path.{◌≡◌, sym, ap, ◌∙◌}
 use mathlib.Core.Bool.{true, false}
 use mathlib.Core.List.{List}
 use Prim.Native.Nat.{ℕ}
-use borrow.Author.Rules.{rules}
 use borrow.Author.Tests.{eq-eqb, ne_eqb}
 use Rattle.policy.specs.Policy.{first_failing, refusal}
 use Rattle.file.specs.File.{contents_fit, lengths_fit, held, file_tests, status, read_file}
-use Rattle.basics.proofs.Truth.{not-true, not-not}
 use Rattle.policy.specs.declared.Policy.{Policy}
 use Rattle.file.specs.declared.Reading.{Reading}
 use Rattle.file.proofs.read.Goals as goal

@@ -1,5 +1,4 @@
 -- `file::refused` meets its contract: the definition, with what the callees promise.
-use borrow.Author.Rules.{rules}
 use Rattle.file.specs.File.{refused_with}
 use Rattle.file.proofs.refused.Goals as goal
 

@@ -1,7 +1,6 @@
 -- `file::row_at` meets its contract: each branch is the side of the definition that its test picks.
 use Prim.Native.Nat.{◌≤◌, ◌<◌}
 use native.Mathlib.Omega.{arith}
-use borrow.Author.Rules.{rules}
 use borrow.Author.Tests.{lt-ltb, le-ltb}
 use Rattle.file.specs.File.{byte, class_count, row_at}
 use Rattle.file.proofs.row_at.Goals as goal

@@ -1,5 +1,4 @@
 -- `file::start` meets its contract: the definition, with what the callees promise.
-use borrow.Author.Rules.{rules}
 use Rattle.file.specs.File.{start}
 use Rattle.file.proofs.start.Goals as goal
 

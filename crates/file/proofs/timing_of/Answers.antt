@@ -1,5 +1,4 @@
 -- `file::timing_of` meets its contract: the definition, with what the callees promise.
-use borrow.Author.Rules.{rules}
 use Rattle.file.specs.File.{timing_of}
 use Rattle.file.proofs.timing_of.Goals as goal
 

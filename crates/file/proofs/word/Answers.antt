@@ -1,5 +1,4 @@
 -- `file::word` meets its contract: the definition, with what the callees promise.
-use borrow.Author.Rules.{rules}
 use Rattle.file.specs.File.{word}
 use Rattle.file.proofs.word.Goals as goal
 

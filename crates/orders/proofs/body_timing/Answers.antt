@@ -12,7 +12,6 @@ use Rattle.file.specs.File.{byte}
 use Rattle.file.specs.Taken.{timing_from}
 use Rattle.orders.specs.Listed.{body_timing}
 use Rattle.basics.proofs.Truth.{either}
-use borrow.Author.Rules.{rules}
 use Rattle.orders.proofs.body_timing.Goals as goal
 
 -- a body of fewer bytes has no gap between ranks

@@ -6,7 +6,6 @@ use borrow.Author.Tests.{ne_eqb, lt-ltb, le-ltb}
 use lib.Dec.{eqb, ltb}
 use Rattle.orders.specs.Listed.{count_of, fetch_status, fetched}
 use Rattle.orders.proofs.Listed.{n-bounds, size-bounds}
-use borrow.Author.Rules.{rules}
 use Rattle.orders.proofs.fetch.Goals as goal
 
 pub returns-then-status-ne0 : goal.returns-then-status-ne0

@@ -5,7 +5,6 @@ use native.Mathlib.Omega.{arith}
 use lib.ListN.{get_or}
 use Rattle.basics.proofs.Stores.{past_end}
 use Rattle.orders.specs.Listed.{first_of, small_orders}
-use borrow.Author.Rules.{rules}
 use Rattle.orders.proofs.order_at.Goals as goal
 
 pub returns-then-at-lt88 : goal.returns-then-at-lt88

@@ -3,7 +3,6 @@ use Rattle.policy.specs.Policy.{made}
 use Rattle.file.specs.Taken.{timing_from, policy_of}
 use Rattle.orders.specs.Listed.{body_timing, policy_at}
 use Rattle.orders.proofs.Listed.{no-minimums}
-use borrow.Author.Rules.{rules}
 use Rattle.orders.proofs.policy_at.Goals as goal
 
 pub returns : goal.returns

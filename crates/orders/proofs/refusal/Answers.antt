@@ -5,8 +5,7 @@ use lib.Dec.{leb}
 use lib.ListN.{length}
 use Rattle.timing.specs.Timing.{within}
 use Rattle.orders.specs.Listed.{few, fetch_status}
-use Rattle.basics.proofs.Truth.{not-true, not-not, and_right}
-use borrow.Author.Rules.{rules}
+use Rattle.basics.proofs.Truth.{and_right}
 use Rattle.orders.proofs.refusal.Goals as goal
 
 pub returns-then-not-n : goal.returns-then-not-n

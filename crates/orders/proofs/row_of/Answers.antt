@@ -1,7 +1,6 @@
 -- `orders::row_of` meets its contract: the definition, with what the callees promise.
 use borrow.Author.Tests.{lt-ltb, le-ltb}
 use Rattle.orders.specs.Listed.{digit_of}
-use borrow.Author.Rules.{rules}
 use Rattle.orders.proofs.row_of.Goals as goal
 
 pub returns-then-i-n : goal.returns-then-i-n

@@ -1,11 +1,9 @@
 -- `orders::rows_at` meets its contract. The invariant: the entries below `i` are filled.
-use mathlib.Core.Path.{ap, ◌∙◌}
 use mathlib.Core.Bool.{cond}
 use Prim.Native.Nat.{ℕ, ◌-◌}
-use borrow.Author.Rules.{rules}
 use lib.Dec.{ltb}
-use Rattle.orders.specs.Listed.{digit_of, row_at}
-use Rattle.basics.proofs.Loops.{Filled, filled_none, filled_more, filled-all}
+use Rattle.orders.specs.Listed.{row_at}
+use Rattle.basics.proofs.Loops.{Filled}
 use Rattle.orders.proofs.rows_at.Given as goal
 
 -- entry i of the rows

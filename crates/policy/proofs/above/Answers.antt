@@ -1,5 +1,4 @@
 -- `policy::above` meets its contract: the definition, with what the callees promise.
-use borrow.Author.Rules.{rules}
 use Rattle.policy.specs.Policy.{above}
 use Rattle.policy.proofs.above.Goals as goal
 

@@ -1,8 +1,7 @@
 -- `policy::all_stored_fits` meets its contract. The invariant: the test passes at every number below `i`.
 use Prim.Native.Nat.{◌-◌}
-use borrow.Author.Rules.{rules}
-use Rattle.policy.specs.Policy.{stored_fits, all_stored_fits}
-use Rattle.basics.proofs.Loops.{Passed, passed_none, passed-all, goes-on, stops}
+use Rattle.policy.specs.Policy.{stored_fits}
+use Rattle.basics.proofs.Loops.{Passed}
 use Rattle.policy.proofs.all_stored_fits.Given as goal
 
 abbrev pub invariant-loop-i : goal.invariant-loop-i

@@ -2,9 +2,7 @@
 use mathlib.Core.Path.{◌≡◌, sym, ap, ◌∙◌}
 use mathlib.Core.Bool.{true}
 use Prim.Native.Nat.{ℕ}
-use borrow.Author.Rules.{rules}
 use Rattle.policy.specs.Policy.{is_class, in_range, walk_bound}
-use Rattle.basics.proofs.Truth.{not-true, not-not}
 use Rattle.policy.proofs.Chains.{refused-13, refused-9, answered}
 use Rattle.policy.proofs.bound_for.Goals as goal
 use Rattle.policy.proofs.bound_for.Goals.{Else-not-in_range}

@@ -1,5 +1,4 @@
 -- `policy::cap` meets its contract: the definition, with what the callees promise.
-use borrow.Author.Rules.{rules}
 use Rattle.policy.specs.Policy.{cap}
 use Rattle.policy.proofs.cap.Goals as goal
 

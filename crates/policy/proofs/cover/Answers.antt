@@ -1,5 +1,4 @@
 -- `policy::cover` meets its contract: the definition, with what the callees promise.
-use borrow.Author.Rules.{rules}
 use Rattle.policy.specs.Policy.{cover}
 use Rattle.policy.proofs.cover.Goals as goal
 

@@ -1,5 +1,4 @@
 -- `policy::cover_count` meets its contract: the definition, with what the callees promise.
-use borrow.Author.Rules.{rules}
 use Rattle.policy.specs.Policy.{cover_count}
 use Rattle.policy.proofs.cover_count.Goals as goal
 

@@ -1,8 +1,7 @@
 -- `policy::covers_in` meets its contract. The invariant: the entries below `i` are filled.
 use Prim.Native.Nat.{◌-◌}
-use borrow.Author.Rules.{rules}
 use Rattle.order.specs.Order.{cover_set}
-use Rattle.basics.proofs.Loops.{Filled, filled_none, filled_more, filled-all}
+use Rattle.basics.proofs.Loops.{Filled}
 use Rattle.policy.proofs.covers_in.Given as goal
 
 abbrev pub invariant-loop-i : goal.invariant-loop-i

@@ -1,5 +1,4 @@
 -- `policy::covers_of` meets its contract: the definition, with what the callees promise.
-use borrow.Author.Rules.{rules}
 use Rattle.policy.specs.Policy.{covers_of}
 use Rattle.policy.proofs.covers_of.Goals as goal
 

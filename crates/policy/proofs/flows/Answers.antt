@@ -1,5 +1,4 @@
 -- `policy::flows` meets its contract: the definition, with what the callees promise.
-use borrow.Author.Rules.{rules}
 use Rattle.policy.specs.Policy.{flows}
 use Rattle.policy.proofs.flows.Goals as goal
 

@@ -1,5 +1,4 @@
 -- `policy::least` meets its contract: the definition, with what the callees promise.
-use borrow.Author.Rules.{rules}
 use Rattle.policy.specs.Policy.{least}
 use Rattle.policy.proofs.least.Goals as goal
 

@@ -1,6 +1,5 @@
 -- `policy::longest_walk` meets its contract: in a policy in range the least class is a class, so that 9 does not refuse it.
 use mathlib.Core.Path.{ap, ◌∙◌}
-use borrow.Author.Rules.{rules}
 use Rattle.policy.specs.Policy.{bound_for}
 use Rattle.policy.proofs.Laws.{policy-laws}
 use Rattle.policy.proofs.Chains.{of-least}

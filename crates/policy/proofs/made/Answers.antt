@@ -1,5 +1,4 @@
 -- `policy::made` meets its contract: the definition, with what the callees promise.
-use borrow.Author.Rules.{rules}
 use Rattle.policy.specs.Policy.{made}
 use Rattle.policy.proofs.made.Goals as goal
 

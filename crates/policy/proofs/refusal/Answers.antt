@@ -2,11 +2,9 @@
 -- return cites the facts of the tests before its own.
 use mathlib.Core.Path.{◌≡◌, sym, ◌∙◌}
 use mathlib.Core.Bool.{true}
-use borrow.Author.Rules.{rules}
 use Rattle.order.specs.Order.{rows_fit, antisymmetric, transitive, has_least}
 use Rattle.turns.specs.Turns.{turns_sound}
 use Rattle.policy.specs.Policy.{refusal, policy_tests, first_failing}
-use Rattle.basics.proofs.Truth.{not-true, not-not}
 use Rattle.policy.proofs.refusal.Goals as goal
 use Rattle.policy.proofs.refusal.Goals.{Else-not-has_least, Else-not-is_antisymmetric, Else-not-is_transitive, Else-not-rows_fit, Else-not-turns_sound}
 

@@ -1,5 +1,4 @@
 -- `policy::stored_fits` meets its contract: the definition, with what the callees promise.
-use borrow.Author.Rules.{rules}
 use Rattle.policy.specs.Policy.{stored_fits, is_class, minimum}
 use Rattle.policy.proofs.stored_fits.Goals as goal
 

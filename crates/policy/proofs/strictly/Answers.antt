@@ -1,5 +1,4 @@
 -- `policy::strictly` meets its contract: the definition, with what the callees promise.
-use borrow.Author.Rules.{rules}
 use Rattle.policy.specs.Policy.{strictly}
 use Rattle.policy.proofs.strictly.Goals as goal
 

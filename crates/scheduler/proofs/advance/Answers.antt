@@ -1,5 +1,4 @@
 -- `scheduler::advance` meets its contract: the arrays and numbers lent to `calls` are the state's, so what is put together from them at the end is the state after.
--- ---- places: the state is taken apart in fifteen steps, and lent in twelve
 use mathlib.Core.Path.{◌≡◌, refl, sym, ap, ◌∙◌, subst}
 use mathlib.Core.Bool.{true}
 use mathlib.Core.List.{◌++◌}

@@ -1,5 +1,4 @@
 -- `scheduler::call_at` meets its contract: what the word is picks the side of the definition, and each side is what the tick or the offer in place left.
--- ---- places
 use mathlib.Core.Path.{◌≡◌, refl, sym, ap, ap₂, ◌∙◌, subst}
 use Prim.Native.Nat.{ℕ}
 use borrow.Author.Tests.{lt-ltb, le-ltb}

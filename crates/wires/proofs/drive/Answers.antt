@@ -1,6 +1,5 @@
 -- `wires::drive` meets its contract: on a bus that has what the second step rests on, each return is one of the three outcomes of the laws of `Step` (crate `rules`), by
 -- the tests that led to it.
--- ---- places: the start, from each test that did not lead to a return
 use Rattle.std.proofs.Common.{◌≡◌, ℕ, ◌+◌, ◌%◌, ◌<◌, true, false, eqb, ltb, get_or, sym, refl, ap, ◌∙◌, subst, ap₂, ⊎_elim, not-suc-le-zero, arith, ltb-true, le-ltb, lt-ltb, eq-eqb, ne_eqb}
 use Rattle.basics.specs.Below.{some, first}
 use Rattle.basics.proofs.Truth.{false-unless, not-both, not-true, not-not, and_both, and-fails-left, and-fails-right, or_left, or_cases}

@@ -6,7 +6,6 @@ use native.Mathlib.Omega.{arith}
 use Rattle.basics.proofs.Stores.{past_end}
 use Rattle.writer.specs.Written.{timing_size, contents}
 use Rattle.writer.proofs.FileBytes.{timing-size}
-use borrow.Author.Rules.{rules}
 use Rattle.writer.proofs.contents_byte.Goals as goal
 
 pub overflow_cast-size : goal.overflow_cast-size

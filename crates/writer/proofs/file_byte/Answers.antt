@@ -2,7 +2,6 @@
 use borrow.Author.Tests.{lt-ltb, le-ltb}
 use Prim.Native.Nat.{◌+◌, ◌*◌}
 use Rattle.writer.specs.Written.{file_byte}
-use borrow.Author.Rules.{rules}
 use Rattle.writer.proofs.file_byte.Goals as goal
 
 pub returns-then-k-lt16 : goal.returns-then-k-lt16

@@ -1,10 +1,9 @@
 -- `writer::fill` meets its contract: the definition, with what the callees promise.
 use mathlib.Core.Path.{◌≡◌, refl, ap, ◌∙◌}
 use mathlib.Core.List.{List, ◌++◌}
-use Prim.Native.Nat.{ℕ, ◌-◌, ◌+◌, ◌≤◌}
+use Prim.Native.Nat.{ℕ}
 use native.Mathlib.Omega.{arith}
-use lib.ListN.{length, set, drop, length-set}
-use borrow.Author.Rules.{rules}
+use lib.ListN.{set, drop, length-set}
 use Rattle.basics.specs.Below.{list_of}
 use Rattle.policy.proofs.Laws.{policy-laws}
 use Rattle.writer.specs.Written.{file_size, file_byte, file_of}

@@ -1,14 +1,10 @@
 -- `writer::fill` meets its contract: the definition, with what the callees promise.
-use mathlib.Core.Path.{◌≡◌, refl, ap, ◌∙◌}
-use mathlib.Core.List.{List, ◌++◌}
-use Prim.Native.Nat.{ℕ, ◌-◌, ◌+◌, ◌≤◌}
-use native.Mathlib.Omega.{arith}
-use lib.ListN.{length, set, drop, length-set}
-use borrow.Author.Rules.{rules}
+use mathlib.Core.Path.{◌≡◌}
+use mathlib.Core.List.{◌++◌}
+use Prim.Native.Nat.{◌-◌, ◌≤◌}
+use lib.ListN.{length, drop}
 use Rattle.basics.specs.Below.{list_of}
-use Rattle.policy.proofs.Laws.{policy-laws}
-use Rattle.writer.specs.Written.{file_size, file_byte, file_of}
-use Rattle.writer.proofs.FileBytes.{byte_small, byte_more}
+use Rattle.writer.specs.Written.{file_byte}
 use Rattle.writer.proofs.fill.Given as goal
 
 abbrev pub invariant-loop-k : goal.invariant-loop-k

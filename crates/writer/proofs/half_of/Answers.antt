@@ -1,7 +1,6 @@
 -- `writer::half_of` meets its contract: the definition, with what the callees promise.
 use borrow.Author.Tests.{eq-eqb, ne_eqb}
 use Rattle.writer.specs.Written.{half_of}
-use borrow.Author.Rules.{rules}
 use Rattle.writer.proofs.half_of.Goals as goal
 
 pub returns-then-half-eq0 : goal.returns-then-half-eq0

@@ -1,7 +1,6 @@
 -- `writer::order_byte` meets its contract: the definition, with what the callees promise.
 use borrow.Author.Tests.{eq-eqb, ne_eqb}
 use Rattle.writer.specs.Written.{order_byte}
-use borrow.Author.Rules.{rules}
 use Rattle.writer.proofs.order_byte.Goals as goal
 
 pub returns-then-k-eq0 : goal.returns-then-k-eq0

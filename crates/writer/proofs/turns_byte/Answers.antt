@@ -2,7 +2,6 @@
 use borrow.Author.Tests.{eq-eqb, ne_eqb}
 use Rattle.policy.specs.Policy.{minimum}
 use Rattle.writer.specs.Written.{turns_byte}
-use borrow.Author.Rules.{rules}
 use Rattle.writer.proofs.turns_byte.Goals as goal
 
 pub returns-then-k-eq0 : goal.returns-then-k-eq0

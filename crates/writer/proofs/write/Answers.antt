@@ -6,9 +6,7 @@ use borrow.Author.Tests.{le-leb, lt-leb}
 use lib.Dec.{leb}
 use lib.ListN.{length}
 use Rattle.writer.specs.Written.{file_size, write_status, writing, out_after}
-use Rattle.basics.proofs.Truth.{not-true, not-not}
 use Rattle.policy.proofs.Laws.{policy-laws}
-use borrow.Author.Rules.{rules}
 use Rattle.writer.proofs.write.Goals as goal
 
 pub returns-then-not-in_range : goal.returns-then-not-in_range

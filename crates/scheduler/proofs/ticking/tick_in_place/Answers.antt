@@ -1,5 +1,4 @@
 -- `scheduler::ticking::tick_in_place` meets its contract: the turns, the wires and the response are those of the definition, one after the other.
--- ---- places
 use mathlib.Core.Path.{◌≡◌, refl, sym, ap, ap₂, ◌∙◌, subst}
 use mathlib.Core.Logic.{⊎_elim}
 use mathlib.Core.Bool.{Bool, cond}

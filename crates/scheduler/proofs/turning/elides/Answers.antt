@@ -1,6 +1,5 @@
 -- `scheduler::turning::elides` meets its contract: before a home turn the owner's row answers, before another each branch is the lookahead by the turns left that its test picks, and an
 -- epoch is not 0.
--- ---- where the next turn's traversal starts, and what turn that is
 use mathlib.Core.Path.{◌≡◌, sym, ap, ap₂, ◌∙◌, subst}
 use mathlib.Core.Bool.{Bool, true, false, cond}
 use mathlib.Core.List.{List}
@@ -22,6 +21,8 @@ use Rattle.scheduler.specs.declared.turning.First.{First}
 use Rattle.scheduler.proofs.InPlace.{climbs-lent}
 use Rattle.scheduler.proofs.turning.elides.Goals as goal
 use Rattle.scheduler.proofs.turning.elides.Goals.{After-first_class-next, Else-next, Start, Then-next}
+
+-- ---- where the next turn's traversal starts, and what turn that is
 
 starts-at : (c : After-first_class-next) → c.first_class-next.result.class ≡ first_class c.args.p (c.args.number + 1)
 starts-at c = ap (λ (f : First). f.class) c.first_class-next.ensures

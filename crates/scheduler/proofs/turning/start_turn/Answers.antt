@@ -1,6 +1,5 @@
 -- `scheduler::turning::start_turn` meets its contract. Where the home class takes the turn, the definition's traversal, which tries it as one with a turn left, ends at it; elsewhere
 -- that makes no difference to the traversal. Each later call adds its part of the definition.
--- ---- places
 use mathlib.Core.Path.{◌≡◌, refl, sym, ap, ap₂, ◌∙◌, subst}
 use mathlib.Core.Logic.{⊎_elim}
 use mathlib.Core.Bool.{Bool, cond, not, ◌&&◌}

@@ -1,6 +1,5 @@
 -- `wires::driving::goes_at` meets its contract. The invariant: no request before the k-th may go, none of them before the tick `until`, and the look goes past the oldest only where fewer than may have
 -- passed it.
--- ---- when a request may go, of the numbers and arrays that are lent
 use Rattle.std.proofs.Common.{◌≡◌, ℕ, ◌+◌, ◌<◌, ◌≤◌, min, Bool, true, false, ◌||◌, eqb, ltb, get_or, sym, ap, ◌∙◌, subst, ap₂, ⊎_elim, lt_of_lt_of_le, not-suc-le-zero, lt_irrefl, add-one, arith, rules, ltb-true, lt-ltb, eq-eqb, le-leb}
 use Rattle.basics.specs.Below.{first}
 use Rattle.basics.proofs.Truth.{not-both, and_left, and_right, and_both, or_left, or_right}

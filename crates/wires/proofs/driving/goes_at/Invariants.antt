@@ -1,6 +1,5 @@
 -- `wires::driving::goes_at` meets its contract. The invariant: no request before the k-th may go, none of them before the tick `until`, and the look goes past the oldest only where fewer than may have
 -- passed it.
--- ---- when a request may go, of the numbers and arrays that are lent
 use Rattle.std.proofs.Common.{◌≡◌, ℕ, ◌+◌, ◌-◌, ◌<◌, ◌≤◌, min, Bool, false, ◌&&◌, ◌||◌, eqb, ltb, leb, List, get_or, sym, ap, ◌∙◌, subst, ap₂, ⊎_elim, lt_irrefl, arith, le-ltb, ne_eqb}
 use borrow.Author.Tests.{lt-leb}
 use Rattle.timing.specs.declared.Timing.{Timing}
@@ -15,6 +14,7 @@ use Rattle.wires.specs.InPlace.{opens_by, may_go_by, Scannable}
 use Rattle.wires.proofs.InPlace.{gaps-open}
 use Rattle.wires.proofs.driving.goes_at.Given as goal
 
+-- ---- when a request may go, of the numbers and arrays that are lent
 module _ (timing : Timing) (last : ℕ) (slots banks : List ℕ) (class head length passed : ℕ) where
   -- the ticks, counted from 1, at which the last activate of all lets a read and a write go, and at which the k-th request may go
   abbrev pub read : ℕ

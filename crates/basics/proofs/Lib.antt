@@ -8,3 +8,5 @@ pub mod Below
 pub mod Loops
 -- of stores into a slice
 pub mod Stores
+-- of the library's iterators over the numbers below a bound and over lists, and of `from_fn`
+pub mod Ranges

@@ -62,16 +62,6 @@ pub implication : (a b : Bool) → ((a ≡ true) → b ≡ true) → (not a || b
 implication true b h = h refl
 implication false b h = refl
 
--- it fails exactly where a holds and b does not
-implies-not : (a b : Bool) → (not a || b) ≡ not (a && not b)
-implies-not true true = refl
-implies-not true false = refl
-implies-not false b = refl
-
--- what the code's question `x && not y` tells of it, where x and y are the answers for a and b
-pub implies-asked : {a b x y v : Bool} → x ≡ a → y ≡ b → (x && not y) ≡ v → (not a || b) ≡ not v
-implies-asked {a} {b} p q e = implies-not a b ∙ ap not (ap₂ (λ (c d : Bool). c && not d) (sym p) (sym q) ∙ e)
-
 -- what already follows adds nothing
 pub or-implied : (a b : Bool) → ((b ≡ true) → a ≡ true) → (a || b) ≡ a
 or-implied true b h = refl

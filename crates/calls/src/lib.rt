@@ -10,19 +10,16 @@ use requests::{Record, Request, Wires, words};
 use state::{Offered, State, Ticked};
 
 // An offer: 13, 9, 10, 11 in that order. Taken, it goes to the end of its class's queue as it is, and nothing else changes. It is a run over its request's word.
+// Kept: numbers, here and in `tick`, as the definitions offer and tick give them.
 pub fn offer(p: Policy, s: State, r: Request) -> Offered
     ensures { result ≡ offer p s r }
 {
-    let trace = [words::word_of(r)];
-    let mut line = [0u32; 4];
-    let ran = scheduler::run(p, s, &trace, &mut line);
-    let state = ran.state;
-    if ran.status != 0 {
-        return Offered { status: 13, state };
-    }
+    let mut line = [0; 4];
+    let ran = scheduler::run(p, s, &[words::word_of(r)], &mut line);
+    let status = if ran.status == 0 { line[0] } else { 13 };
     Offered {
-        status: line[0],
-        state,
+        status,
+        state: ran.state,
     }
 }
 
@@ -30,14 +27,12 @@ pub fn offer(p: Policy, s: State, r: Request) -> Offered
 pub fn tick(p: Policy, s: State) -> Ticked
     ensures { result ≡ tick p s }
 {
-    let trace = [0u32; 1];
-    let mut log = [0u32; 4];
-    let ran = scheduler::run(p, s, &trace, &mut log);
-    let state = ran.state;
+    let mut line = [0; 4];
+    let ran = scheduler::run(p, s, &[0], &mut line);
     if ran.status != 0 {
         return Ticked {
             status: 13,
-            state,
+            state: ran.state,
             shown: Record {
                 wires: Wires::Nothing,
                 response: 0,
@@ -45,15 +40,14 @@ pub fn tick(p: Policy, s: State) -> Ticked
             },
         };
     }
-    let wires = words::wires_of(log[1]);
-    let shown = Record {
-        wires,
-        response: log[2],
-        turn: log[3],
-    };
+    let [status, command, response, turn] = line;
     Ticked {
-        status: log[0],
-        state,
-        shown,
+        status,
+        state: ran.state,
+        shown: Record {
+            wires: words::wires_of(command),
+            response,
+            turn,
+        },
     }
 }

@@ -22,12 +22,10 @@ use Rattle.state.specs.declared.Ran.{Ran}
 use Rattle.rules.proofs.Laws.{scheduler-laws}
 use Rattle.rules.proofs.Run.{by-room, by-calls}
 use Rattle.policy.specs.Policy as policies
-use Rattle.policy.specs.Policy.{no_policy, is_class, walk_bound}
+use Rattle.policy.specs.Policy.{Bound, no_policy, is_class, walk_bound}
 use Rattle.policy.specs.declared.Policy.{Policy}
-use Rattle.policy.specs.declared.Bound.{Bound}
 use Rattle.policy.proofs.Chains.{refused-9, answered}
-use Rattle.writer.specs.Written.{file_size, file_byte, file_of, write_status, writing, out_after}
-use Rattle.writer.specs.declared.Written.{Written}
+use Rattle.writer.specs.Written.{Written, file_size, file_byte, file_of, write_status, writing, out_after}
 use Rattle.orders.specs.Listed.{count_of, fetched}
 use Rattle.orders.specs.Policies.{Asked, small_policy, Fetches, HandedBack}
 use Rattle.orders.proofs.Policies.{fetches, handed_back}

@@ -10,7 +10,7 @@ use Rattle.policy.specs.Policy.{bound_for}
 use Rattle.policy.specs.declared.Policy.{Policy}
 use Rattle.state.specs.Fresh.{fresh}
 use Rattle.rules.specs.Run.{run, log_after}
-use Rattle.extract.specs.declared.Extracted.{Extracted}
+use Rattle.extract.specs.Extract.{Extracted}
 use Rattle.capi.specs.Runs.{run_status, run_log}
 use Rattle.capi.specs.Extracts.{status_by, count_by, out_by}
 use Rattle.capi.specs.Bounds.{file_bound_status, file_bound}

@@ -2,8 +2,7 @@
 use Rattle.std.specs.Prelude.{cond, List, ℕ, eqb}
 use Rattle.file.specs.File.{read_file}
 use Rattle.policy.specs.declared.Policy.{Policy}
-use Rattle.extract.specs.Extract.{extract, out_after, extract_set, out_after_set}
-use Rattle.extract.specs.declared.Extracted.{Extracted}
+use Rattle.extract.specs.Extract.{Extracted, extract, out_after, extract_set, out_after_set}
 
 -- ---- a call of an extract on the policy of a file
 

@@ -1,29 +1,31 @@
 -- W-204: two recordings held together, and the recordings of a log, in numbers.
-use Rattle.std.specs.Prelude.{List, ℕ, length}
+use Rattle.std.specs.Prelude.{Option, Some, None, List, ℕ, length}
+use Rattle.std.specs.declared.result.Result.{Result}
+use Rattle.std.specs.declared.result.Result.TheVariants.{Ok, Err}
 use Rattle.recordings.specs.Recording.{soundness, status_of}
 use Rattle.recordings.specs.Match.{alone}
-use Rattle.recordings.specs.declared.Soundness.{Soundness}
-use Rattle.recordings.specs.declared.Soundness.TheVariants.{Sound, WiresUnsound, CoresUnsound}
+use Rattle.recordings.specs.declared.Fault.{Fault}
+use Rattle.recordings.specs.declared.Fault.TheVariants.{Wires, Cores}
 use Rattle.recordings.specs.declared.Alone.{Alone}
-use Rattle.recordings.specs.declared.Alone.TheVariants.{NoEvent, Activate, Response}
+use Rattle.recordings.specs.declared.Alone.TheVariants.{Activate, Response}
 
 -- the recording that holds an event: 1 for the wires', 2 for the cores', 0 where there is none
-unfoldable pub held_by : Alone → ℕ
-held_by NoEvent = 0
-held_by (Activate at) = 1
-held_by (Response at) = 2
+unfoldable pub held_by : Option Alone → ℕ
+held_by None = 0
+held_by (Some (Activate at)) = 1
+held_by (Some (Response at)) = 2
 
 -- the recording that is named: the unsound one, and else the one that holds the first event without a partner
-unfoldable pub which_of : Soundness → Alone → ℕ
-which_of Sound found = held_by found
-which_of WiresUnsound found = 1
-which_of CoresUnsound found = 2
+unfoldable pub which_of : Result (Unit {0}) Fault → Option Alone → ℕ
+which_of (Ok _) found = held_by found
+which_of (Err Wires) found = 1
+which_of (Err Cores) found = 2
 
 -- the place where the rest begins: the end of the wires' where it is the empty one
-unfoldable pub place_of : ℕ → Alone → ℕ
-place_of end NoEvent = end
-place_of end (Activate at) = at
-place_of end (Response at) = at
+unfoldable pub place_of : ℕ → Option Alone → ℕ
+place_of end None = end
+place_of end (Some (Activate at)) = at
+place_of end (Some (Response at)) = at
 
 -- the three numbers of a call
 unfoldable pub match_status : List ℕ → List ℕ → ℕ → ℕ

@@ -1,4 +1,5 @@
 // The model for other programs: numbers and slices only. `include/vigambul.h` says the same to C. A slice passes as a pointer and then its length.
+// Kept: two functions where two names are C's (extracts, recordings), and the reading of a file in each: a function that is handed the question as a closure would have clauses of that closure's calls, and of what it writes.
 
 #![tactic(auto)]
 
@@ -11,7 +12,7 @@ ghost use Rattle.recordings.specs.Recording.{status_of};
 ghost use Rattle.recordings.specs.Logged.{record_status, recorded, out_after};
 ghost use Rattle.capi.specs.SmallOrders.{order_status, order_size, order_file};
 
-use recordings::{Alone, Soundness};
+use recordings::{Alone, Fault};
 
 // Reads a policy file's bytes, makes its fresh state and runs a trace from it into a log. Answers 0, or 1 to 8 for the file, or 15 for a log that is too short; then
 // nothing is written.
@@ -25,10 +26,7 @@ pub extern "C" fn vigambul_run(file: &[u8], trace: &[u32], log: &mut [u32]) -> u
         return reading.status;
     }
     let p = reading.policy;
-    let made = state::fresh(p);
-    let s = made.state;
-    let ran = logs::run(p, s, trace, log);
-    ran.status
+    logs::run(p, state::fresh(p).state, trace, log).status
 }
 
 // Reads a policy file's bytes, and writes what a class may see of the log of a trace to the start of `out`. Answers how many numbers that is, and puts into `status` 0,
@@ -53,8 +51,8 @@ pub extern "C" fn vigambul_extract(
     }
     let p = reading.policy;
     let extracted = extract::extract(p, class, trace, log, out);
-    *status = extracted.status;
-    extracted.count
+    *status = refusals::status_of(extracted);
+    extracted.unwrap_or(0)
 }
 
 // W-211: the same for a set of classes, bit c of `set` for class c: what may flow to at least one of them is kept. 9 is for a bit that stands for none of the policy's classes.
@@ -78,8 +76,8 @@ pub extern "C" fn vigambul_extract_set(
     }
     let p = reading.policy;
     let together = extract::extract_set(p, set, trace, log, out);
-    *status = together.status;
-    together.count
+    *status = refusals::status_of(together);
+    together.unwrap_or(0)
 }
 
 // Reads a policy file's bytes, and answers how many classes a walk that starts at a class tries at most, the class counted: the number of classes on the longest rising chain
@@ -96,56 +94,60 @@ pub extern "C" fn vigambul_walk_bound(file: &[u8], class: u32, status: &mut u32)
     }
     let p = reading.policy;
     let bound = policy::walk_bound(p, class);
-    *status = bound.status;
-    bound.classes
+    *status = refusals::status_of(bound);
+    bound.unwrap_or(0)
 }
 
 // The number of an answer.
-fn status_of(sound: Soundness) -> u32
+// Kept: numbers for the answers, from here to vigambul_match and in every function for C, as include/vigambul.h has them.
+#[tactic(auto, unfolding(recordings::specs::Recording::status_of))]
+fn status_of(sound: Result<(), Fault>) -> u32
     ensures { result ≡ status_of sound }
 {
     match sound {
-        Soundness::Sound => 0,
-        Soundness::WiresUnsound => 18,
-        Soundness::CoresUnsound => 18,
+        Ok(()) => 0,
+        Err(_) => 18,
     }
 }
 
 // The recording that holds an event.
-fn held_by(found: Alone) -> u32
+#[tactic(auto, unfolding(crate::specs::Matches::held_by))]
+fn held_by(found: Option<Alone>) -> u32
     ensures { result ≡ held_by found }
 {
     match found {
-        Alone::NoEvent => 0,
-        Alone::Activate(_) => 1,
-        Alone::Response(_) => 2,
+        None => 0,
+        Some(Alone::Activate(_)) => 1,
+        Some(Alone::Response(_)) => 2,
     }
 }
 
 // The recording that is named.
-fn which_of(sound: Soundness, found: Alone) -> u32
+#[tactic(auto, unfolding(crate::specs::Matches::which_of))]
+fn which_of(sound: Result<(), Fault>, found: Option<Alone>) -> u32
     ensures { result ≡ which_of sound found }
 {
     match sound {
-        Soundness::Sound => held_by(found),
-        Soundness::WiresUnsound => 1,
-        Soundness::CoresUnsound => 2,
+        Ok(()) => held_by(found),
+        Err(Fault::Wires) => 1,
+        Err(Fault::Cores) => 2,
     }
 }
 
 // The place where the rest begins.
-fn place_of(end: usize, found: Alone) -> usize
+#[tactic(auto, unfolding(crate::specs::Matches::place_of))]
+fn place_of(end: usize, found: Option<Alone>) -> usize
     ensures { result ≡ place_of end found }
 {
     match found {
-        Alone::NoEvent => end,
-        Alone::Activate(at) => at,
-        Alone::Response(at) => at,
+        None => end,
+        Some(Alone::Activate(at) | Alone::Response(at)) => at,
     }
 }
 
 // W-204: holds a recording of the wires and one of the cores together. Answers 0, or 18 if one is unsound. Puts into `which` the recording that is named (1 for the wires', 2 for the
 // cores', 0 for none), and into `at` the place in it where the rest begins, and the end of the wires' where that is the empty one.
+#[tactic(auto, unfolding(crate::specs::Matches::match_status, crate::specs::Matches::match_which, crate::specs::Matches::match_at))]
 #[unsafe(no_mangle)]
 pub extern "C" fn vigambul_match(
     wires: &[u32],
@@ -180,8 +182,8 @@ pub extern "C" fn vigambul_wires(
     ensures wires_after { wires.new ≡ out_after true trace.now log.now start wires.old }
 {
     let at_wires = recordings::wires_of(trace, log, start, wires);
-    *count = at_wires.count;
-    at_wires.status
+    *count = at_wires.unwrap_or(0);
+    refusals::status_of(at_wires)
 }
 
 // W-204: the same for the responses at the cores.
@@ -198,8 +200,8 @@ pub extern "C" fn vigambul_cores(
     ensures cores_after { cores.new ≡ out_after false trace.now log.now start cores.old }
 {
     let at_cores = recordings::cores_of(trace, log, start, cores);
-    *count = at_cores.count;
-    at_cores.status
+    *count = at_cores.unwrap_or(0);
+    refusals::status_of(at_cores)
 }
 
 // W-208: writes the policy file of the order of n classes, 1 to 4, at a place from 0, with E = 4, minimums 0 and a timing body of 10 or 11 bytes, to the start of `file`, and puts
@@ -224,6 +226,6 @@ pub extern "C" fn vigambul_order(
         return fetched.status;
     }
     let written = writer::write(p, file);
-    *len = written.size;
-    written.status
+    *len = written.unwrap_or(0);
+    refusals::status_of(written)
 }

@@ -1,16 +1,13 @@
 // Lists of calls made singly, and runs: their statuses, logs and states; a run cut in two at every place, and one made by single calls.
 
-use super::singles::Called;
-use super::{Case, end_line, least, number, number_at, same, singles, words};
+use super::{Case, singles};
 use policy::Policy;
-use script::{Line, List};
+use script::{List, MARKER};
 use state::State;
 use std::io;
 
-// What every number of a log is before a run.
-const MARKER: u32 = 7777;
-
 // What a run answers, and its log.
+// Kept: a number and a state, as `logs::run` answers them.
 #[derive(Clone, Copy)]
 struct Run {
     status: u32,
@@ -18,203 +15,111 @@ struct Run {
     log: List,
 }
 
-// The numbers of a list between two places.
-fn between(all: &[u32], from: usize, to: usize) -> &[u32] {
-    if to <= all.len() {
-        if from <= to {
-            return &all[from..to];
-        }
-    }
-    all
-}
-
-fn part(list: &[u32; 160], from: usize, to: usize) -> &[u32] {
-    let all = &list[..];
-    between(all, from, to)
-}
-
 // A run over a trace from a place of it on, into a log of so many numbers, 160 or less.
-fn run_of(p: Policy, s: State, trace: List, from: usize, room: usize) -> Run {
-    let numbers = trace.at;
+fn run_of(p: Policy, s: State, trace: &List, from: usize, room: usize) -> Run {
     let mut log = [MARKER; 160];
-    let most = least(room, 160);
-    let made = logs::run(p, s, part(&numbers, from, trace.count), &mut log[0..most]);
-    let state = made.state;
-    let list = List {
-        at: log,
-        count: most,
-    };
+    let count = room.min(160);
+    let numbers = trace.at.get(from..trace.count).unwrap_or(&trace.at[..]);
+    let made = logs::run(p, s, numbers, &mut log[..count]);
     Run {
         status: made.status,
-        state,
-        log: list,
+        state: made.state,
+        log: List { at: log, count },
     }
 }
 
 // The state after the calls of a trace, from a policy's fresh state.
-pub(crate) fn state_of(p: Policy, trace: List) -> State {
+pub(crate) fn state_of(p: Policy, trace: &List) -> State {
     let fresh = state::fresh(p);
-    let made = run_of(p, fresh.state, trace, 0, 160);
-    let s = made.state;
-    s
+    run_of(p, fresh.state, trace, 0, 160).state
 }
 
 // A run's status, and whether the state is as it was.
-fn ran(rt: &impl Print, before: State, made: Run) -> io::Result<()> {
-    number(rt, made.status)?;
-    singles::stands(rt, before, made.state)
-}
-
-// The name and a line's number.
-fn label(rt: &impl Print, text: &[u8], l: Line, c: Case, at: usize) -> io::Result<()> {
-    script::name(rt, text, l, c.own)?;
-    script::spaced(rt, at)?;
-    words(rt, b":")
-}
-
-// A number of a log that is printed by lines.
-fn cell(rt: &impl Print, text: &[u8], l: Line, c: Case, at: usize, value: u32) -> io::Result<()> {
-    if at % 4 == 0 {
-        label(rt, text, l, c, at / 4)?;
-    }
-    number(rt, value)?;
-    if at % 4 == 3 {
-        end_line(rt)?;
-    }
-    Ok(())
+fn ran(rt: &impl Print, before: &State, made: &Run) -> io::Result<()> {
+    script::spaced(rt, made.status)?;
+    singles::stands(rt, before, &made.state)
 }
 
 // A log by lines, four numbers to a line.
-fn rows(rt: &impl Print, text: &[u8], l: Line, c: Case, log: List) -> io::Result<()> {
-    for at in 0..log.count {
-        cell(rt, text, l, c, at, number_at(log, at))?;
-    }
-    Ok(())
-}
-
-// The numbers of a log, one after the other.
-fn print(rt: &impl Print, log: List) -> io::Result<()> {
-    for at in 0..log.count {
-        number(rt, number_at(log, at))?;
-    }
-    Ok(())
+fn rows(rt: &impl Print, c: &Case, log: &List) -> io::Result<()> {
+    c.script.rows(rt, log.first(log.count))
 }
 
 // A run, and its log by lines.
-pub(crate) fn list(rt: &impl Print, text: &[u8], l: Line, c: Case) -> io::Result<()> {
-    let trace = c.trace;
-    let made = run_of(c.policy, c.state, trace, 0, 4 * least(trace.count, 40));
-    ran(rt, c.state, made)?;
-    end_line(rt)?;
-    rows(rt, text, l, c, made.log)
+pub(crate) fn list(rt: &impl Print, c: &Case) -> io::Result<()> {
+    let made = run_of(c.policy, c.state, &c.trace, 0, 4 * c.trace.count.min(40));
+    ran(rt, &c.state, &made)?;
+    rt.write_all(b"\n")?;
+    rows(rt, c, &made.log)
 }
 
 // A run over as many numbers of the trace, with a log of as many, and its whole log on its line: TRACE LOG.
-pub(crate) fn whole(rt: &impl Print, c: Case) -> io::Result<()> {
+pub(crate) fn whole(rt: &impl Print, c: &Case) -> io::Result<()> {
     let mut trace = c.trace;
-    trace.count = number_at(c.own, 0) as usize;
-    let room = number_at(c.own, 1) as usize;
-    let made = run_of(c.policy, c.state, trace, 0, room);
-    ran(rt, c.state, made)?;
-    words(rt, b", log")?;
-    print(rt, made.log)?;
-    end_line(rt)
+    trace.count = c.script.own.get(0) as usize;
+    let made = run_of(c.policy, c.state, &trace, 0, c.script.own.get(1) as usize);
+    ran(rt, &c.state, &made)?;
+    rt.write_all(b", log")?;
+    script::all_spaced(rt, made.log.first(made.log.count))?;
+    rt.write_all(b"\n")
 }
 
 // A run over 40 numbers in one piece, its status and its log by lines.
-pub(crate) fn plain(rt: &impl Print, text: &[u8], l: Line, c: Case) -> io::Result<()> {
-    let one = run_of(c.policy, c.state, c.trace, 0, 160);
-    number(rt, one.status)?;
-    end_line(rt)?;
-    rows(rt, text, l, c, one.log)
+pub(crate) fn plain(rt: &impl Print, c: &Case) -> io::Result<()> {
+    let one = run_of(c.policy, c.state, &c.trace, 0, 160);
+    script::spaced(rt, one.status)?;
+    rt.write_all(b"\n")?;
+    rows(rt, c, &one.log)
 }
 
 // Whether the numbers of a list stand in another, from a place of it on.
-fn stands_in(list: List, all: List, from: usize) -> bool {
-    let start = least(from, 160);
-    let end = least(list.count, 160);
-    for at in 0..end {
-        if number_at(list, at) != number_at(all, start + at) {
-            return false;
-        }
-    }
-    true
+fn stands_in(list: &List, all: &List, from: usize) -> bool {
+    all.at[from.min(160)..].starts_with(list.first(list.count))
 }
 
 // Whether two ways to make the same calls lead to one state and one log.
 fn agree(rt: &impl Print, same: bool) -> io::Result<()> {
     if same {
-        words(rt, b" the same state, the same log\n")
+        rt.write_all(b" the same state, the same log\n")
     } else {
-        words(rt, b" another state or another log\n")
+        rt.write_all(b" another state or another log\n")
     }
 }
 
 // Two runs that meet at a place, beside the run in one piece: PLACE.
-pub(crate) fn halves(rt: &impl Print, c: Case) -> io::Result<()> {
-    let place = least(number_at(c.own, 0) as usize, 40);
+pub(crate) fn halves(rt: &impl Print, c: &Case) -> io::Result<()> {
+    let place = (c.script.own.get(0) as usize).min(40);
     let written = 4 * place;
     let mut start = c.trace;
     start.count = place;
-    let first = run_of(c.policy, c.state, start, 0, written);
-    let second = run_of(c.policy, first.state, c.trace, place, 160 - written);
-    let one = run_of(c.policy, c.state, c.trace, 0, 160);
+    let first = run_of(c.policy, c.state, &start, 0, written);
+    let second = run_of(c.policy, first.state, &c.trace, place, 160 - written);
+    let one = run_of(c.policy, c.state, &c.trace, 0, 160);
     agree(
         rt,
-        same::same_state(one.state, second.state)
-            & stands_in(first.log, one.log, 0)
-            & stands_in(second.log, one.log, written),
+        (one.state == second.state)
+            & stands_in(&first.log, &one.log, 0)
+            & stands_in(&second.log, &one.log, written),
     )
 }
 
-// A list with a number more, where there is room.
-fn with_number(list: List, value: u32) -> List {
-    let mut longer = list;
-    let count = list.count;
-    if count < 160 {
-        longer.at[count] = value;
-        longer.count = count + 1;
-    }
-    longer
-}
-
-// A log with the four numbers of a call more.
-fn with_call(log: List, made: Called) -> List {
-    let first = with_number(log, made.status);
-    let second = with_number(first, made.command);
-    let third = with_number(second, made.response);
-    with_number(third, made.turn)
-}
-
-// A single call's line, if it is to be shown.
-fn call_line(
-    rt: &impl Print,
-    text: &[u8],
-    l: Line,
-    c: Case,
-    at: usize,
-    before: State,
-    made: Called,
-) -> io::Result<()> {
-    if l.letter == b's' {
-        label(rt, text, l, c, at)?;
-        singles::show(rt, before, made)?;
-    }
-    Ok(())
-}
-
 // The calls of a trace one after the other, with a line for each if they are to be shown, and what a run over them is to answer.
-fn singly(rt: &impl Print, text: &[u8], l: Line, c: Case) -> io::Result<Run> {
-    let trace = c.trace;
+// Kept: a flag and no function that shows a line: one of its two callers would hand in one that does nothing.
+fn singly(rt: &impl Print, c: &Case, shown: bool) -> io::Result<Run> {
     let mut log = List {
         at: [MARKER; 160],
         count: 0,
     };
     let mut state = c.state;
-    for at in 0..trace.count {
-        let made = singles::call_of(c.policy, state, number_at(trace, at));
-        call_line(rt, text, l, c, at, state, made)?;
-        log = with_call(log, made);
+    for (at, word) in c.trace.first(c.trace.count).iter().enumerate() {
+        let made = singles::call_of(c.policy, state, *word);
+        if shown {
+            c.script.label(rt, at)?;
+            singles::show(rt, &state, &made)?;
+        }
+        for number in &made.log {
+            log.push(*number);
+        }
         state = made.state;
     }
     Ok(Run {
@@ -224,21 +129,20 @@ fn singly(rt: &impl Print, text: &[u8], l: Line, c: Case) -> io::Result<Run> {
     })
 }
 
-pub(crate) fn single(rt: &impl Print, text: &[u8], l: Line, c: Case) -> io::Result<()> {
-    let _ = singly(rt, text, l, c)?;
+// The single calls, each with its line.
+pub(crate) fn single(rt: &impl Print, c: &Case) -> io::Result<()> {
+    singly(rt, c, true)?;
     Ok(())
 }
 
 // The single calls, beside the run in one piece.
-pub(crate) fn unshown(rt: &impl Print, text: &[u8], l: Line, c: Case) -> io::Result<()> {
-    let one = run_of(c.policy, c.state, c.trace, 0, 160);
-    let made = singly(rt, text, l, c)?;
-    let whole = one.log;
-    let log = made.log;
+pub(crate) fn unshown(rt: &impl Print, c: &Case) -> io::Result<()> {
+    let one = run_of(c.policy, c.state, &c.trace, 0, 160);
+    let made = singly(rt, c, false)?;
     agree(
         rt,
-        same::same_state(one.state, made.state)
-            & (log.count == whole.count)
-            & stands_in(log, whole, 0),
+        (one.state == made.state)
+            & (made.log.count == one.log.count)
+            & stands_in(&made.log, &one.log, 0),
     )
 }

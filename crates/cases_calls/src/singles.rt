@@ -1,66 +1,53 @@
 // Offers, ticks and fresh states.
 
-use super::{Case, end_line, number, number_at, same, words};
+use super::Case;
+use flight::Flight;
 use policy::Policy;
+use queues::Queues;
 use requests::Request;
-use state::State;
+use state::{State, Turns};
 use std::io;
 
-// What a call answers: its four log numbers, and the state after it.
+// What a call answers: its four log numbers, the status first, and the state after it.
 #[derive(Clone, Copy)]
 pub(crate) struct Called {
-    pub status: u32,
-    pub command: u32,
-    pub response: u32,
-    pub turn: u32,
+    pub log: [u32; 4],
     pub state: State,
 }
 
 // Whether the state that a call handed back is the one that it was given.
-pub(crate) fn stands(rt: &impl Print, before: State, after: State) -> io::Result<()> {
-    if same::same_state(before, after) {
-        words(rt, b", as it was")
+pub(crate) fn stands(rt: &impl Print, before: &State, after: &State) -> io::Result<()> {
+    if before == after {
+        rt.write_all(b", as it was")
     } else {
-        words(rt, b", changed")
+        rt.write_all(b", changed")
     }
 }
 
 // The four log numbers, for a refused call whether the state is as it was, and the line's end.
-pub(crate) fn show(rt: &impl Print, before: State, made: Called) -> io::Result<()> {
-    number(rt, made.status)?;
-    number(rt, made.command)?;
-    number(rt, made.response)?;
-    number(rt, made.turn)?;
-    if made.status != 0 {
-        stands(rt, before, made.state)?;
+pub(crate) fn show(rt: &impl Print, before: &State, made: &Called) -> io::Result<()> {
+    script::all_spaced(rt, &made.log)?;
+    if made.log[0] != 0 {
+        stands(rt, before, &made.state)?;
     }
-    end_line(rt)
+    rt.write_all(b"\n")
 }
 
 fn tick_of(p: Policy, s: State) -> Called {
     let made = calls::tick(p, s);
-    let state = made.state;
     let shown = made.shown;
-    let wires = shown.wires;
-    let command = requests::words::command_number(wires);
+    let command = requests::words::command_number(shown.wires);
     Called {
-        status: made.status,
-        command,
-        response: shown.response,
-        turn: shown.turn,
-        state,
+        log: [made.status, command, shown.response, shown.turn],
+        state: made.state,
     }
 }
 
 fn offer_of(p: Policy, s: State, r: Request) -> Called {
     let made = calls::offer(p, s, r);
-    let state = made.state;
     Called {
-        status: made.status,
-        command: 0,
-        response: 0,
-        turn: 0,
-        state,
+        log: [made.status, 0, 0, 0],
+        state: made.state,
     }
 }
 
@@ -70,40 +57,64 @@ pub(crate) fn call_of(p: Policy, s: State, word: u32) -> Called {
         return tick_of(p, s);
     }
     if requests::words::is_offer(word) {
-        let r = requests::words::request_of(word);
-        return offer_of(p, s, r);
+        return offer_of(p, s, requests::words::request_of(word));
     }
     Called {
-        status: 14,
-        command: 0,
-        response: 0,
-        turn: 0,
+        log: [14, 0, 0, 0],
         state: s,
     }
 }
 
 // CLASS RANK KIND BANK TAG.
-pub(crate) fn offer(rt: &impl Print, c: Case) -> io::Result<()> {
+pub(crate) fn offer(rt: &impl Print, c: &Case) -> io::Result<()> {
+    let own = c.script.own;
     let r = Request {
-        class: number_at(c.own, 0),
-        kind: number_at(c.own, 2),
-        bank: number_at(c.own, 3),
-        rank: number_at(c.own, 1),
-        tag: (number_at(c.own, 4) % 65536) as u16,
+        class: own.get(0),
+        kind: own.get(2),
+        bank: own.get(3),
+        rank: own.get(1),
+        tag: (own.get(4) % 65536) as u16,
     };
-    show(rt, c.state, offer_of(c.policy, c.state, r))
+    show(rt, &c.state, &offer_of(c.policy, c.state, r))
 }
 
-pub(crate) fn tick(rt: &impl Print, c: Case) -> io::Result<()> {
-    show(rt, c.state, tick_of(c.policy, c.state))
+pub(crate) fn tick(rt: &impl Print, c: &Case) -> io::Result<()> {
+    show(rt, &c.state, &tick_of(c.policy, c.state))
+}
+
+// The state of all zeros, as asking a fresh one of an unfit policy hands it back.
+// Kept: zeros written out, as in `state`.
+fn all_zeros() -> State {
+    State {
+        cycle: 0,
+        classes: 0,
+        queues: Queues {
+            slots: [0; 128],
+            heads: [0; 16],
+            lengths: [0; 16],
+            passed: [0; 16],
+        },
+        turns: Turns {
+            owner: 0,
+            elided: false,
+            left: [0; 16],
+            pointers: [0; 16],
+        },
+        flight: Flight {
+            columns: [0; 32],
+            responses: [0; 32],
+            banks: [0; 32],
+            last: 0,
+        },
+    }
 }
 
 // What asking a fresh state of a policy answers.
-pub(crate) fn fresh(rt: &impl Print, c: Case) -> io::Result<()> {
+pub(crate) fn fresh(rt: &impl Print, c: &Case) -> io::Result<()> {
     let made = state::fresh(c.policy);
-    number(rt, made.status)?;
-    if same::all_zeros(made.state) {
-        words(rt, b", all zeros")?;
+    script::spaced(rt, made.status)?;
+    if made.state == all_zeros() {
+        rt.write_all(b", all zeros")?;
     }
-    end_line(rt)
+    rt.write_all(b"\n")
 }

@@ -1,34 +1,16 @@
 // Extracts: their statuses, counts and numbers.
 
-use super::{Case, least, number_at, words};
-use extract::Extracted;
+use super::Case;
 use policy::Policy;
-use script::{Line, List};
+use refusals::Refusal;
+use script::{List, MARKER};
 use std::io;
-
-// What every number of a log or of an extract is before it is written.
-const MARKER: u32 = 7777;
 
 // What an extract answers, and the slice that it wrote.
 #[derive(Clone, Copy)]
 struct Extract {
-    status: u32,
-    count: usize,
+    answer: Result<usize, Refusal>,
     out: List,
-}
-
-fn front(all: &[u32], count: usize) -> &[u32] {
-    if count <= all.len() {
-        &all[0..count]
-    } else {
-        all
-    }
-}
-
-// The first numbers of a list, as many as are asked for, or all where it has not so many.
-fn first(list: &[u32; 160], count: usize) -> &[u32] {
-    let all = &list[..];
-    front(all, count)
 }
 
 // Whom an extract is for: a class, or a set of classes with bit c for class c.
@@ -38,7 +20,13 @@ pub(crate) enum Whose {
     Set(u32),
 }
 
-fn asked(p: Policy, whose: Whose, trace: &[u32], log: &[u32], out: &mut [u32]) -> Extracted {
+fn asked(
+    p: Policy,
+    whose: Whose,
+    trace: &[u32],
+    log: &[u32],
+    out: &mut [u32],
+) -> Result<usize, Refusal> {
     match whose {
         Whose::Class(class) => extract::extract(p, class, trace, log, out),
         Whose::Set(set) => extract::extract_set(p, set, trace, log, out),
@@ -46,113 +34,58 @@ fn asked(p: Policy, whose: Whose, trace: &[u32], log: &[u32], out: &mut [u32]) -
 }
 
 // An extract with room for 160 numbers or less.
-fn extract_of(p: Policy, whose: Whose, trace: List, log: List, room: usize) -> Extract {
-    let numbers = trace.at;
-    let logged = log.at;
+fn extract_of(p: Policy, whose: Whose, trace: &[u32], log: &[u32], room: usize) -> Extract {
     let mut out = [MARKER; 160];
-    let most = least(room, 160);
-    let made = asked(
-        p,
-        whose,
-        first(&numbers, trace.count),
-        first(&logged, log.count),
-        &mut out[0..most],
-    );
-    let list = List {
-        at: out,
-        count: most,
-    };
+    let count = room.min(160);
+    let answer = asked(p, whose, trace, log, &mut out[..count]);
     Extract {
-        status: made.status,
-        count: made.count,
-        out: list,
+        answer,
+        out: List { at: out, count },
     }
 }
 
 // The status and the count of an extract.
-fn answered(rt: &impl Print, made: Extract) -> io::Result<()> {
-    script::spaced(rt, made.status as usize)?;
-    words(rt, b", count")?;
-    script::spaced(rt, made.count)
-}
-
-// The numbers of a list, one after the other.
-fn print(rt: &impl Print, list: List) -> io::Result<()> {
-    for at in 0..list.count {
-        script::spaced(rt, number_at(list, at) as usize)?;
-    }
-    Ok(())
+// Kept: three lines, as in cases_recordings: `script` would rest on `refusals` for them.
+fn answered(rt: &impl Print, answer: Result<usize, Refusal>) -> io::Result<()> {
+    script::spaced(rt, refusals::status_of(answer))?;
+    rt.write_all(b", count")?;
+    script::spaced(rt, answer.unwrap_or(0))
 }
 
 // An extract for a class or a set, the first of the case's own numbers, of as many numbers of the trace and of the log, with room for as many, and the whole slice on its line:
 // CLASS TRACE LOG ROOM.
-pub(crate) fn sized(rt: &impl Print, c: Case, whose: Whose) -> io::Result<()> {
-    let mut trace = c.trace;
-    trace.count = number_at(c.own, 1) as usize;
-    let mut log = c.log;
-    log.count = number_at(c.own, 2) as usize;
-    let room = number_at(c.own, 3) as usize;
-    let made = extract_of(c.policy, whose, trace, log, room);
-    answered(rt, made)?;
-    words(rt, b", out")?;
-    print(rt, made.out)?;
-    words(rt, b"\n")
-}
-
-// A number of a list that is printed four to a line, each line with the name and its own number.
-fn cell(rt: &impl Print, text: &[u8], l: Line, c: Case, at: usize, value: u32) -> io::Result<()> {
-    if at % 4 == 0 {
-        script::name(rt, text, l, c.own)?;
-        script::spaced(rt, at / 4)?;
-        words(rt, b":")?;
-    }
-    script::spaced(rt, value as usize)?;
-    if at % 4 == 3 {
-        words(rt, b"\n")?;
-    }
-    Ok(())
+pub(crate) fn sized(rt: &impl Print, c: &Case, whose: Whose) -> io::Result<()> {
+    let own = c.script.own;
+    let trace = c.trace.first(own.get(1) as usize);
+    let log = c.log.first(own.get(2) as usize);
+    let made = extract_of(c.policy, whose, trace, log, own.get(3) as usize);
+    answered(rt, made.answer)?;
+    rt.write_all(b", out")?;
+    script::all_spaced(rt, made.out.first(made.out.count))?;
+    rt.write_all(b"\n")
 }
 
 // What a class or a set may see of a log, by lines: CLASS.
-pub(crate) fn seen(
-    rt: &impl Print,
-    text: &[u8],
-    l: Line,
-    c: Case,
-    whose: Whose,
-    log: List,
-) -> io::Result<()> {
-    let made = extract_of(c.policy, whose, c.trace, log, log.count);
-    let out = made.out;
-    answered(rt, made)?;
-    words(rt, b"\n")?;
-    for at in 0..out.count {
-        cell(rt, text, l, c, at, number_at(out, at))?;
-    }
-    Ok(())
+pub(crate) fn seen(rt: &impl Print, c: &Case, whose: Whose, log: &List) -> io::Result<()> {
+    let trace = c.trace.first(c.trace.count);
+    let made = extract_of(c.policy, whose, trace, log.first(log.count), log.count);
+    answered(rt, made.answer)?;
+    rt.write_all(b"\n")?;
+    c.script.rows(rt, made.out.first(made.out.count))
 }
 
 // The same of the log of a run from a fresh state.
-pub(crate) fn seen_of_run(
-    rt: &impl Print,
-    text: &[u8],
-    l: Line,
-    c: Case,
-    whose: Whose,
-) -> io::Result<()> {
+pub(crate) fn seen_of_run(rt: &impl Print, c: &Case, whose: Whose) -> io::Result<()> {
     let fresh = state::fresh(c.policy);
-    let trace = c.trace;
-    let numbers = trace.at;
-    let mut log = [MARKER; 160];
+    let mut log = List {
+        at: [MARKER; 160],
+        count: 160,
+    };
     logs::run(
         c.policy,
         fresh.state,
-        first(&numbers, trace.count),
-        &mut log[..],
+        c.trace.first(c.trace.count),
+        &mut log.at,
     );
-    let list = List {
-        at: log,
-        count: 160,
-    };
-    seen(rt, text, l, c, whose, list)
+    seen(rt, c, whose, &log)
 }

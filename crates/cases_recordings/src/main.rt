@@ -3,75 +3,30 @@
 
 #![tactic(auto)]
 
-ghost use Rattle.std.specs.Prelude.{◌≤◌};
-
-use recordings::{Alone, Recorded, Soundness};
-use script::{Line, List};
+use recordings::{Alone, Fault};
+use refusals::Refusal;
+use script::{Case, List, MARKER};
 use std::io;
 
-// What stands in a slice before a call writes into it.
-const MARKER: u32 = 7777;
-
-fn words(rt: &impl Print, text: &[u8]) -> io::Result<()> {
-    rt.write_all(text)
-}
-
-fn least(a: usize, b: usize) -> usize
-    ensures { (result ≤ a) × (result ≤ b) }
-{
-    if a < b { a } else { b }
-}
-
-// The number of a list at an index, and 0 past its 160 places.
-fn number_at(list: List, index: usize) -> u32 {
-    if index < 160 { list.at[index] } else { 0 }
-}
-
-// The first numbers of a slice, as many as are asked for, or all where it has not so many.
-fn front(all: &[u32], count: usize) -> &[u32] {
-    if count <= all.len() {
-        &all[0..count]
-    } else {
-        all
-    }
-}
-
-fn spaced(rt: &impl Print, number: u32) -> io::Result<()> {
-    script::spaced(rt, number as usize)
-}
-
-// Numbers, one after the other.
-fn print(rt: &impl Print, numbers: &[u32]) -> io::Result<()> {
-    for number in numbers {
-        spaced(rt, *number)?;
-    }
-    Ok(())
-}
-
-fn print_list(rt: &impl Print, list: List) -> io::Result<()> {
-    let numbers = list.at;
-    print(rt, front(&numbers, list.count))
-}
-
 // Which recording is unsound.
-fn told(rt: &impl Print, sound: Soundness) -> io::Result<()> {
+fn told(rt: &impl Print, sound: Result<(), Fault>) -> io::Result<()> {
     match sound {
-        Soundness::Sound => words(rt, b" sound"),
-        Soundness::WiresUnsound => words(rt, b" 18 wires"),
-        Soundness::CoresUnsound => words(rt, b" 18 cores"),
+        Ok(()) => rt.write_all(b" sound"),
+        Err(Fault::Wires) => rt.write_all(b" 18 wires"),
+        Err(Fault::Cores) => rt.write_all(b" 18 cores"),
     }
 }
 
 // The first event without a partner.
-fn found(rt: &impl Print, alone: Alone) -> io::Result<()> {
+fn found(rt: &impl Print, alone: Option<Alone>) -> io::Result<()> {
     match alone {
-        Alone::NoEvent => words(rt, b", none"),
-        Alone::Activate(at) => {
-            words(rt, b", activate")?;
+        None => rt.write_all(b", none"),
+        Some(Alone::Activate(at)) => {
+            rt.write_all(b", activate")?;
             script::spaced(rt, at)
         }
-        Alone::Response(at) => {
-            words(rt, b", answer")?;
+        Some(Alone::Response(at)) => {
+            rt.write_all(b", answer")?;
             script::spaced(rt, at)
         }
     }
@@ -81,95 +36,62 @@ fn found(rt: &impl Print, alone: Alone) -> io::Result<()> {
 fn held<'a>(rt: &impl Print, wires: &'a [u32], cores: &'a [u32], delay: u8) -> io::Result<()> {
     told(rt, recordings::unsound(wires, cores, delay))?;
     found(rt, recordings::first_alone(wires, cores, delay))?;
-    words(rt, b", rest")?;
-    print(rt, recordings::unmatched(wires, cores, delay))?;
-    words(rt, b"\n")
+    rt.write_all(b", rest")?;
+    script::all_spaced(rt, recordings::unmatched(wires, cores, delay))?;
+    rt.write_all(b"\n")
 }
 
 // A match of as many numbers of the two recordings: DELAY WIRES CORES.
-fn matched(rt: &impl Print, wires: List, cores: List, own: List) -> io::Result<()> {
-    let at_wires = wires.at;
-    let at_cores = cores.at;
-    let delay = (number_at(own, 0) % 256) as u8;
-    let w = number_at(own, 1) as usize;
-    let c = number_at(own, 2) as usize;
-    held(rt, front(&at_wires, w), front(&at_cores, c), delay)
-}
-
-fn made(activates: bool, trace: &[u32], log: &[u32], start: u32, out: &mut [u32]) -> Recorded {
-    if activates {
-        recordings::wires_of(trace, log, start, out)
-    } else {
-        recordings::cores_of(trace, log, start, out)
-    }
+fn matched(rt: &impl Print, wires: &List, cores: &List, own: &List) -> io::Result<()> {
+    let delay = (own.get(0) % 256) as u8;
+    let wires = wires.first(own.get(1) as usize);
+    let cores = cores.first(own.get(2) as usize);
+    held(rt, wires, cores, delay)
 }
 
 // A recording of as many numbers of the trace and of the log, with room for as many, and the whole slice on its line: START TRACE LOG ROOM.
-fn recorded(rt: &impl Print, activates: bool, trace: List, log: List, own: List) -> io::Result<()> {
-    let numbers = trace.at;
-    let logged = log.at;
+fn recorded<F: FnOnce(&[u32], &[u32], u32, &mut [u32]) -> Result<usize, Refusal>>(
+    rt: &impl Print,
+    make: F,
+    trace: &List,
+    log: &List,
+    own: &List,
+) -> io::Result<()>
+    requires { F.IsAlwaysCallable make }
+{
     let mut out = [MARKER; 160];
-    let most = least(number_at(own, 3) as usize, 160);
-    let t = number_at(own, 1) as usize;
-    let l = number_at(own, 2) as usize;
-    let answer = made(
-        activates,
-        front(&numbers, t),
-        front(&logged, l),
-        number_at(own, 0),
-        &mut out[0..most],
+    let most = (own.get(3) as usize).min(160);
+    let answer = make(
+        trace.first(own.get(1) as usize),
+        log.first(own.get(2) as usize),
+        own.get(0),
+        &mut out[..most],
     );
-    script::spaced(rt, answer.status as usize)?;
-    words(rt, b", count")?;
-    script::spaced(rt, answer.count)?;
-    words(rt, b", out")?;
-    let whole = List {
-        at: out,
-        count: most,
-    };
-    print_list(rt, whole)?;
-    words(rt, b"\n")
+    script::spaced(rt, refusals::status_of(answer))?;
+    rt.write_all(b", count")?;
+    script::spaced(rt, answer.unwrap_or(0))?;
+    rt.write_all(b", out")?;
+    script::all_spaced(rt, &out[..most])?;
+    rt.write_all(b"\n")
 }
 
-// The case of a line. A comment, an empty line and what later lines go by are none.
-fn one_line(rt: &impl Print, text: &[u8], l: Line) -> io::Result<()> {
-    if l.letter < b'a' {
-        return Ok(());
-    }
-    let own = script::numbers(text, l.numbers);
-    let trace = script::numbers(text, l.trace);
-    let log = script::numbers(text, l.log);
-    let letter = l.letter;
-    script::name(rt, text, l, own)?;
-    words(rt, b":")?;
-    match letter {
-        b'm' => matched(rt, trace, log, own),
-        b'w' => recorded(rt, true, trace, log, own),
-        b'c' => recorded(rt, false, trace, log, own),
+// A case's name, and its answer.
+// Kept: a letter picks the case and what it goes by: the script's format.
+fn one_case(rt: &impl Print, case: &Case) -> io::Result<()> {
+    let text = case.text;
+    let line = case.line;
+    let trace = script::numbers(text, line.trace);
+    let log = script::numbers(text, line.log);
+    case.name(rt)?;
+    rt.write_all(b":")?;
+    match line.letter {
+        b'm' => matched(rt, &trace, &log, &case.own),
+        b'w' => recorded(rt, recordings::wires_of, &trace, &log, &case.own),
+        b'c' => recorded(rt, recordings::cores_of, &trace, &log, &case.own),
         _ => Ok(()),
     }
 }
 
-fn every_line(rt: &impl Print, text: &[u8]) -> io::Result<()> {
-    let mut l = Line {
-        letter: 0,
-        name: 0,
-        numbers: 0,
-        next: 0,
-        file: 0,
-        state: 0,
-        trace: 0,
-        log: 0,
-    };
-    while l.next < text.len() {
-        l = script::next_line(text, l);
-        one_line(rt, text, l)?;
-    }
-    Ok(())
-}
-
 fn main(rt: HostRuntime) -> io::Result<()> {
-    let mut text = [0u8; 65536];
-    let count = script::read(&mut rt.stdin(), &mut text)?;
-    every_line(&rt, &text[..count])
+    script::each_case(&mut rt.stdin(), |case| one_case(&rt, case))
 }

@@ -5,9 +5,9 @@ use mathlib.Core.Path.{◌≡◌, refl, sym, ap, ◌∙◌, fun_ext}
 use mathlib.Core.Logic.{⊎_elim}
 use mathlib.Core.Bool.{Bool, true, false, cond, ◌&&◌}
 use mathlib.Core.List.{List, ◌++◌}
-use Prim.Native.Nat.{ℕ, ◌*◌, ◌≤◌, ◌<◌}
+use Prim.Native.Nat.{ℕ, ◌*◌, ◌<◌}
 use native.Mathlib.Omega.{arith}
-use borrow.Author.Tests.{eq-eqb, eqb-true, le-leb, lt-leb}
+use borrow.Author.Tests.{eq-eqb, eqb-true}
 use lib.Dec.{eqb, leb}
 use lib.ListN.{length, drop}
 use Rattle.basics.specs.Below.{set_of}
@@ -18,10 +18,8 @@ use Rattle.basics.proofs.Truth.{either, false-unless, same_truth, and_left, and_
 use Rattle.basics.proofs.Below.{lt-or-ge, some_at, some-found}
 use Rattle.masks.proofs.Masks.{member-over, member-class_mask, set_of-below, member-set_of}
 use Rattle.policy.proofs.Laws.{policy-laws}
-use Rattle.extract.specs.Seen.{seen_by, seen_by_any, staying}
-use Rattle.extract.specs.Extract.{extract_of, seen_status, seen_answer, seen_out}
-use Rattle.extract.specs.declared.Extracted.{Extracted}
-use Rattle.extract.proofs.Laws.{four_each}
+use Rattle.extract.specs.Seen.{seen_by, seen_by_any}
+use Rattle.extract.specs.Extract.{Extracted, extract_of, seen_status, seen_answer, seen_out}
 
 -- ---- the classes that are seen
 
@@ -82,34 +80,10 @@ module _ (p : Policy) (named : Bool) (seen : ℕ → Bool) (trace log out : List
     unfolding seen_status
     refused-9 e = rw (given, e)
 
-    -- nor 9
-    module _ (class : named ≡ true) where
-      pub refused-17 : eqb (length log) (4 * length trace) ≡ false → seen_status p named seen trace log out ≡ 17
-      unfolding seen_status
-      refused-17 e = rw (given, class, e)
-
-      -- nor 17
-      module _ (lengths : length log ≡ 4 * length trace) where
-        pub refused-16 : length out < length (extract_of seen trace log) → seen_status p named seen trace log out ≡ 16
-        unfolding seen_status
-        refused-16 h = rw (given, class, eq-eqb (length log) (4 * length trace) lengths, lt-leb (length (extract_of seen trace log)) (length out) h)
-
-        pub not_refused : length (extract_of seen trace log) ≤ length out → seen_status p named seen trace log out ≡ 0
-        unfolding seen_status
-        not_refused h = rw (given, class, eq-eqb (length log) (4 * length trace) lengths, le-leb (length (extract_of seen trace log)) (length out) h)
-
   -- "A refused call .. writes nothing, and a refused extract hands back a count of 0"
   pub refused : (n : ℕ) → eqb n 0 ≡ false → seen_status p named seen trace log out ≡ n → (record { status = n; count = 0 } ≡ seen_answer p named seen trace log out) × (out ≡ seen_out p named seen trace log out)
   unfolding seen_answer seen_out
   refused n some e = (rw (e, some), rw (e, some))
-
-  pub taken : {n : ℕ} → seen_status p named seen trace log out ≡ 0 → n ≡ length (extract_of seen trace log) → record { status = 0; count = n } ≡ seen_answer p named seen trace log out
-  unfolding seen_answer
-  taken e k = rw (e, k)
-
-  pub written : seen_status p named seen trace log out ≡ 0 → extract_of seen trace log ++ drop (length (extract_of seen trace log)) out ≡ seen_out p named seen trace log out
-  unfolding seen_out
-  written e = rw e
 
 -- ---- which classes may be seen matters only where neither 13 nor 9 refuses the call
 
@@ -159,7 +133,3 @@ module _ (p : Policy) (named : Bool) (out : List ℕ) where
     pub out-is : seen_out p named seen trace log out ≡ out-by (extract_of seen trace log)
     unfolding seen_out
     out-is = ap (λ (k : ℕ). cond (eqb k 0) (extract_of seen trace log ++ drop (length (extract_of seen trace log)) out) out) status_is
-
--- the code's count is four times what stays
-pub count-is : (seen : ℕ → Bool) (trace log : List ℕ) {n : ℕ} → n ≡ length (staying seen trace) → 4 * n ≡ length (extract_of seen trace log)
-count-is seen trace log k = ap (λ (i : ℕ). 4 * i) k ∙ sym (four_each seen trace log)

@@ -3,14 +3,15 @@
 -- Assumes nothing.
 use mathlib.Core.Path.{◌≡◌, refl, sym, ap, ◌∙◌}
 use mathlib.Core.Logic.{◌⊎◌, inl, inr, ⊎_elim}
-use mathlib.Core.Bool.{Bool, true, false}
+use mathlib.Core.Bool.{Bool, true, false, cond}
 use mathlib.Core.List.{List, [], ◌∷◌, ◌++◌, append-nil, append_assoc}
 use Prim.Native.Nat.{ℕ, suc, ◌+◌, ◌*◌, ◌≤◌, ◌<◌}
-use native.Mathlib.Nat.{le_refl}
 use native.Mathlib.Numerals.{add-one}
 use native.Mathlib.Omega.{arith}
 use borrow.Author.Tests.{ne_eqb}
 use lib.ListN.{length, get_or, take, drop, length-append, take-append-drop}
+use Rattle.std.proofs.Common.{count_by}
+use Rattle.std.proofs.lemmas.List.Recursion.{is_count_by}
 use lib.Seq.{length-take-le, take-suc, get_or-drop, drop-drop, sets}
 use Rattle.basics.proofs.Truth.{either, not-both, on-true, on-false}
 use Rattle.requests.specs.Word.{is_offer, request_of}
@@ -28,6 +29,15 @@ pub no-tick : (w : ℕ) → ((w ≡ 0) → ⊥) → (call_of w ≡ Offer (reques
 no-tick w some =
     let other = ne_eqb w 0 some in
     ⊎_elim (λ t. inl (told-offer w other t)) (λ t. inr (told-malformed w other t)) (either (is_offer w))
+
+-- four numbers, one by one
+pub four_of : (l : List ℕ) → length l ≡ 4 → l ≡ get_or l 0 0 ∷ get_or l 1 0 ∷ get_or l 2 0 ∷ get_or l 3 0 ∷ []
+four_of [] e = absurd (omega (arith, e))
+four_of (a ∷ []) e = absurd (omega (arith, e))
+four_of (a ∷ b ∷ []) e = absurd (omega (arith, e))
+four_of (a ∷ b ∷ c ∷ []) e = absurd (omega (arith, e))
+four_of (a ∷ b ∷ c ∷ d ∷ []) e = refl
+four_of (a ∷ b ∷ c ∷ d ∷ x ∷ l) e = absurd (omega (arith, e))
 
 module _ (seen : ℕ → Bool) where
   malformed-dropped : call_stays seen Malformed ≡ false
@@ -84,6 +94,18 @@ module _ (seen : ℕ → Bool) where
   unfolding staying
   purge-no w ws e = on-false (stays seen w) (w ∷ staying seen ws) (staying seen ws) e
 
+  -- to count them is to count the list of them
+  one_counted : (w : ℕ) (ws : List ℕ) → length (staying seen (w ∷ ws)) ≡ cond (stays seen w) (1 + length (staying seen ws)) (length (staying seen ws))
+  one_counted w ws =
+      ⊎_elim
+      (λ e. rw e (omega (arith, ap length (purge-yes w ws e))))
+      (λ e. rw e (ap length (purge-no w ws e)))
+      (either (stays seen w))
+
+  pub counted : (trace : List ℕ) → count_by (stays seen) trace ≡ length (staying seen trace)
+  unfolding staying
+  counted trace = sym (is_count_by (λ (ws : List ℕ). length (staying seen ws)) (stays seen) refl one_counted trace)
+
   purge-append : (xs ys : List ℕ) → staying seen (xs ++ ys) ≡ staying seen xs ++ staying seen ys
   unfolding staying
   purge-append [] ys = refl
@@ -92,35 +114,6 @@ module _ (seen : ℕ → Bool) where
       (λ e. purge-yes x (xs ++ ys) e ∙ ap (λ (l : List ℕ). x ∷ l) (purge-append xs ys) ∙ sym (ap (λ (l : List ℕ). l ++ staying seen ys) (purge-yes x xs e)))
       (λ e. purge-no x (xs ++ ys) e ∙ purge-append xs ys ∙ sym (ap (λ (l : List ℕ). l ++ staying seen ys) (purge-no x xs e)))
       (either (stays seen x))
-
-  one_more : (trace : List ℕ) (i : ℕ) → i < length trace → length (staying seen (take (i + 1) trace)) ≡ length (staying seen (take i trace)) + length (staying seen (get_or trace i 0 ∷ []))
-  one_more trace i h =
-      rw (add-one i)
-      (ap (λ (l : List ℕ). length (staying seen l)) (take-suc trace i 0 h)
-      ∙ ap length (purge-append (take i trace) (get_or trace i 0 ∷ []))
-      ∙ length-append (staying seen (take i trace)) (staying seen (get_or trace i 0 ∷ [])))
-
-  -- one more that stays, and one more that does not
-  pub kept_more : (trace : List ℕ) (i : ℕ) → i < length trace → stays seen (get_or trace i 0) ≡ true → length (staying seen (take (i + 1) trace)) ≡ length (staying seen (take i trace)) + 1
-  unfolding staying
-  kept_more trace i h e = one_more trace i h ∙ ap (λ (l : List ℕ). length (staying seen (take i trace)) + length l) (purge-yes (get_or trace i 0) [] e)
-
-  pub kept_same : (trace : List ℕ) (i : ℕ) → i < length trace → stays seen (get_or trace i 0) ≡ false → length (staying seen (take (i + 1) trace)) ≡ length (staying seen (take i trace))
-  unfolding staying
-  kept_same trace i h e =
-      one_more trace i h
-      ∙ ap (λ (l : List ℕ). length (staying seen (take i trace)) + length l) (purge-no (get_or trace i 0) [] e)
-      ∙ omega arith
-
-  -- no more stay than there are
-  pub kept-le : (trace : List ℕ) → length (staying seen trace) ≤ length trace
-  unfolding staying
-  kept-le [] = le_refl 0
-  kept-le (w ∷ ws) =
-      ⊎_elim
-      (λ e. omega (arith, ap length (purge-yes w ws e), kept-le ws))
-      (λ e. omega (arith, ap length (purge-no w ws e), kept-le ws))
-      (either (stays seen w))
 
   -- ---- extracts
 

@@ -6,3 +6,5 @@ pub mod Grown
 pub mod Laws
 -- of the answers of a call
 pub mod Answers
+-- of the set of the classes that pass a test, one class more at a time
+pub mod Masked

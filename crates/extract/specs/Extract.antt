@@ -1,15 +1,16 @@
 -- "The extract for class L", and W-211's for a set of classes: what is left of a log once what may not be seen is dropped or hidden, and the answer of the call.
-use Rattle.std.specs.Prelude.{Bool, true, false, cond, not, ◌&&◌, ◌||◌, List, [], ◌∷◌, ◌++◌, ℕ, ◌+◌, ◌-◌, ◌*◌, ◌%◌, eqb, leb, length, get_or, drop}
+use Rattle.std.specs.Prelude.{Result, Ok, Err, Bool, true, false, cond, not, ◌&&◌, ◌||◌, List, [], ◌∷◌, ◌++◌, ℕ, ◌+◌, ◌-◌, ◌*◌, ◌%◌, eqb, leb, length, get_or, drop}
 use Rattle.basics.specs.Below.{every}
 use Rattle.masks.specs.Mask.{member}
 use Rattle.policy.specs.Policy.{in_range, is_class}
 use Rattle.policy.specs.declared.Policy.{Policy}
+use Rattle.refusals.specs.Refusal.{number}
+use Rattle.refusals.specs.declared.Refusal.{Refusal}
 use Rattle.requests.specs.Word.{class_of}
 use Rattle.requests.specs.Trace.{call_of}
 use Rattle.requests.specs.declared.Call.{Call}
 use Rattle.requests.specs.declared.Call.TheVariants.{Tick, Offer, Malformed}
 use Rattle.extract.specs.Seen.{seen_by, seen_by_any, call_stays}
-use Rattle.extract.specs.declared.Extracted.{Extracted}
 
 -- ---- one call's four numbers
 
@@ -48,6 +49,16 @@ extract_of seen (w ∷ ws) log = line_seen_at seen w log 0 ++ extract_of seen ws
 unfoldable pub seen_status : Policy → Bool → (ℕ → Bool) → List ℕ → List ℕ → List ℕ → ℕ
 seen_status p named seen trace log out =
     cond (in_range p) (cond named (cond (eqb (length log) (4 * length trace)) (cond (leb (length (extract_of seen trace log)) (length out)) 0 16) 17) 9) 13
+
+-- what the call answers: 0, or the number that refuses it, and how many numbers it wrote
+pub record Extracted : Type 0 where
+  pub status : ℕ
+  pub count : ℕ
+
+-- so much is said by how many numbers were written, or by what turned it down
+unfoldable pub extracted_of : Result ℕ Refusal → Extracted
+extracted_of (Ok n) = record { status = 0; count = n }
+extracted_of (Err r) = record { status = number r; count = 0 }
 
 -- "The call hands back how many numbers it wrote"; "a refused extract hands back a count of 0"
 unfoldable pub seen_answer : Policy → Bool → (ℕ → Bool) → List ℕ → List ℕ → List ℕ → Extracted

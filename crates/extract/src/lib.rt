@@ -2,84 +2,61 @@
 
 #![tactic(auto)]
 
-ghost use Rattle.std.specs.Prelude.{◌≡◌, true, [], ◌∷◌, ◌++◌, ◌+◌, ◌*◌, ◌≤◌, length, drop};
+ghost use Rattle.std.specs.Prelude.{◌≡◌, true, ◌++◌, ◌+◌, ◌*◌, ◌≤◌, length, get_or, drop};
 ghost use Rattle.std.proofs.lemmas.List.Edits.{sets};
 ghost use Rattle.basics.specs.Below.{set_of};
 ghost use Rattle.masks.specs.Mask.{member};
 ghost use Rattle.requests.specs.Trace.{call_of};
 ghost use Rattle.extract.specs.Seen.{seen_by_any, stays, staying};
-ghost use Rattle.extract.specs.Extract.{are_classes, hide_word, hide_turn, line_seen, line_seen_at, extract_of, seen_answer, seen_out, extract, out_after, extract_set, out_after_set};
+ghost use Rattle.extract.specs.Extract.{are_classes, hide_word, hide_turn, line_seen, line_seen_at, extract_of, extracted_of, seen_answer, seen_out, extract, out_after, extract_set, out_after_set};
 
 use policy::Policy;
+use refusals::Refusal;
 use requests::{Call, words};
 
-// The answer of an extract: 0, or the number that refuses it, and how many numbers it wrote.
-#[derive(Clone, Copy)]
-pub struct Extracted {
-    pub status: u32,
-    pub count: usize,
-}
-
 // Whether the class is in a set of 32 bits, bit c for class c. A number above 31 is in none.
+// Kept: beside masks::has, which asks 16 bits. A set that is asked for has 32, since 9 refuses a bit above 15; one `has` of an `impl Into<u32>` for both widths would widen each set that
+// the scheduler asks, and be no plainer.
 fn in_set(set: u32, class: usize) -> bool
     ensures { result ≡ member set class }
 {
-    if class < 32 {
-        (set >> class) % 2 == 1
-    } else {
-        false
-    }
+    class < 32 && (set >> class) % 2 == 1
 }
 
 // Whether every member of the set is a class of the policy.
 fn are_classes(p: Policy, set: u32) -> bool
     ensures { result ≡ are_classes p set }
 {
-    let mut c = 0;
-    while c < 32 {
-        if in_set(set, c) & !order::is_class(p.classes, c) {
-            return false;
-        }
-        c += 1;
-    }
-    true
+    (0..32).all(|c| !in_set(set, c) | order::is_class(p.classes, c))
 }
 
 // Whether a class may flow to a member of the set.
 fn flows_to_any(p: Policy, class: usize, set: u32) -> bool
     ensures { result ≡ seen_by_any p set class }
 {
-    let mut l = 0;
-    while l < 16 {
-        if in_set(set, l) & policy::flows(p, class, l) {
-            return true;
-        }
-        l += 1;
-    }
-    false
+    (0..16).any(|l| in_set(set, l) & policy::flows(p, class, l))
 }
 
 // The classes that may flow to a member of the set, as a set.
+#[tactic(auto, using(crate::proofs::Masked::masked))]
 fn seen_by(p: Policy, set: u32) -> u16
     ensures { result ≡ set_of 16 (seen_by_any p set) }
 {
     let mut seen = 0u16;
-    let mut c = 0;
-    while c < 16 {
+    for c in 0..16 {
         if flows_to_any(p, c, set) {
             seen += masks::class_mask(c);
         }
-        c += 1;
     }
     seen
 }
 
 // Whether a trace number stays.
+#[tactic(auto, unfolding(crate::specs::Seen::call_stays, crate::specs::Seen::stays))]
 fn stays(seen: u16, word: u32) -> bool
     ensures { result ≡ stays (member seen) word }
 {
-    let call = requests::call_of(word);
-    match call {
+    match requests::call_of(word) {
         Call::Tick => true,
         Call::Offer(r) => masks::has(seen, r.class as usize),
         Call::Malformed => false,
@@ -87,6 +64,7 @@ fn stays(seen: u16, word: u32) -> bool
 }
 
 // A command or response as it may be seen.
+#[tactic(auto, unfolding(crate::specs::Extract::hide_word))]
 fn hide_word(seen: u16, word: u32) -> u32
     ensures { result ≡ hide_word (member seen) word }
 {
@@ -98,6 +76,7 @@ fn hide_word(seen: u16, word: u32) -> u32
 }
 
 // A turn number as it may be seen.
+#[tactic(auto, unfolding(crate::specs::Extract::owner_seen, crate::specs::Extract::hide_turn))]
 fn hide_turn(seen: u16, turn: u32) -> u32
     ensures { result ≡ hide_turn (member seen) turn }
 {
@@ -105,10 +84,7 @@ fn hide_turn(seen: u16, turn: u32) -> u32
         return 0;
     }
     let named = (turn % 256) as usize;
-    if named == 0 {
-        return 512;
-    }
-    if masks::has(seen, named - 1) {
+    if named != 0 && masks::has(seen, named - 1) {
         turn
     } else {
         512
@@ -117,56 +93,35 @@ fn hide_turn(seen: u16, turn: u32) -> u32
 
 // How many numbers of the trace stay.
 fn kept(seen: u16, trace: &[u32]) -> usize
-    ensures { result ≡ length (staying (member seen) trace.now) }
+    ensures value { result ≡ length (staying (member seen) trace.now) }
+    ensures bound { result ≤ length trace.now }
 {
-    let mut n = 0;
-    let mut i = 0;
-    while i < trace.len() {
-        if stays(seen, trace[i]) {
-            n += 1;
-        }
-        i += 1;
+    trace.iter().filter(|word| stays(seen, **word)).count()
+}
+
+// What may be seen of the four log numbers of a trace number that stays.
+fn shown(seen: u16, word: u32, line: [u32; 4]) -> [u32; 4]
+    requires { stays (member seen) word ≡ true }
+    ensures { result ≡ line_seen (member seen) (call_of word) (get_or line 0 0) (get_or line 1 0) (get_or line 2 0) (get_or line 3 0) }
+{
+    if word != 0 {
+        return line;
     }
-    n
+    let [status, command, response, turn] = line;
+    [
+        status,
+        hide_word(seen, command),
+        hide_word(seen, response),
+        hide_turn(seen, turn),
+    ]
 }
 
 // Puts four numbers into `out` from `at` on.
-fn put(a: u32, b: u32, c: u32, d: u32, out: &mut [u32], at: usize)
+fn put(line: [u32; 4], out: &mut [u32], at: usize)
     requires { at + 4 ≤ length out.old }
-    ensures { out.new ≡ sets out.old at (a ∷ b ∷ c ∷ d ∷ []) }
+    ensures { out.new ≡ sets out.old at line }
 {
-    out[at] = a;
-    out[at + 1] = b;
-    out[at + 2] = c;
-    out[at + 3] = d;
-}
-
-// Puts what may be seen of a trace number's four log numbers into `out` from `at` on, where the trace number stays.
-fn put_line(
-    seen: u16,
-    word: u32,
-    status: u32,
-    command: u32,
-    response: u32,
-    turn: u32,
-    out: &mut [u32],
-    at: usize,
-)
-    requires { (stays (member seen) word ≡ true) × (at + 4 ≤ length out.old) }
-    ensures { out.new ≡ sets out.old at (line_seen (member seen) (call_of word) status command response turn) }
-{
-    if word == 0 {
-        put(
-            status,
-            hide_word(seen, command),
-            hide_word(seen, response),
-            hide_turn(seen, turn),
-            out,
-            at,
-        );
-    } else {
-        put(status, command, response, turn, out, at);
-    }
+    out[at..at + 4].copy_from_slice(&line);
 }
 
 // Puts what may be seen of a trace number's four log numbers, which stand from `from` on, into `out` from `at` on. Answers where it ends.
@@ -176,36 +131,29 @@ fn put_call(seen: u16, word: u32, log: &[u32], from: usize, out: &mut [u32], at:
     ensures out_after { out.new ≡ sets out.old at (line_seen_at (member seen) word log.now from) }
 {
     if stays(seen, word) {
-        put_line(
-            seen,
-            word,
-            log[from],
-            log[from + 1],
-            log[from + 2],
-            log[from + 3],
-            out,
-            at,
-        );
+        let line = [log[from], log[from + 1], log[from + 2], log[from + 3]];
+        put(shown(seen, word, line), out, at);
         return at + 4;
     }
     at
 }
 
 // Writes what may be seen of the log to the start of `out`, which has room for it.
+// Kept: trace and log side by side: of what they have in common only this function asks, and what is written goes on from place to place, as `recordings::put`.
 fn write(seen: u16, trace: &[u32], log: &[u32], out: &mut [u32])
     requires { (length log.now ≡ 4 * length trace.now) × (length (extract_of (member seen) trace.now log.now) ≤ length out.old) }
     ensures { out.new ≡ extract_of (member seen) trace.now log.now ++ drop (length (extract_of (member seen) trace.now log.now)) out.old }
 {
     let mut at = 0;
-    let mut i = 0;
-    while i < trace.len() {
+    for i in 0..trace.len() {
         at = put_call(seen, trace[i], log, 4 * i, out, at);
-        i += 1;
     }
 }
 
 // Writes what is left of the log of a trace, where the classes in `seen` may be seen, to the start of `out`, and answers how many numbers that is; or what refuses it, in document
 // 01's order. `named` says whether it was asked for classes of the policy.
+// Kept: a flag, as the definition seen_answer takes it.
+#[tactic(auto, using(crate::proofs::Laws::four_each), unfolding(crate::specs::Extract::seen_status, crate::specs::Extract::seen_answer, crate::specs::Extract::seen_out, crate::specs::Extract::extracted_of, refusals::specs::Refusal::number))]
 fn extract_seen(
     p: Policy,
     named: bool,
@@ -213,53 +161,54 @@ fn extract_seen(
     trace: &[u32],
     log: &[u32],
     out: &mut [u32],
-) -> Extracted
-    ensures value { result ≡ seen_answer p named (member seen) trace.now log.now out.old }
+) -> Result<usize, Refusal>
+    ensures value { extracted_of result ≡ seen_answer p named (member seen) trace.now log.now out.old }
     ensures out_after { out.new ≡ seen_out p named (member seen) trace.now log.now out.old }
 {
     if !policy::in_range(p) {
-        return Extracted {
-            status: 13,
-            count: 0,
-        };
+        return Err(Refusal::OutOfRange);
     }
     if !named {
-        return Extracted {
-            status: 9,
-            count: 0,
-        };
+        return Err(Refusal::Class);
     }
-    if (log.len() % 4 != 0) | (log.len() / 4 != trace.len()) {
-        return Extracted {
-            status: 17,
-            count: 0,
-        };
+    if log.len() != 4 * trace.len() {
+        return Err(Refusal::LogLength);
     }
     let count = 4 * kept(seen, trace);
     if out.len() < count {
-        return Extracted {
-            status: 16,
-            count: 0,
-        };
+        return Err(Refusal::Room);
     }
     write(seen, trace, log, out);
-    Extracted { status: 0, count }
+    Ok(count)
 }
 
 // Writes what class `class` may see of the log of a trace to the start of `out`, and answers how many numbers that is. Of a log that no run wrote, which document 01 leaves
 // open, each number is kept or hidden by its place and by the class that its bits name, whatever else it holds.
-pub fn extract(p: Policy, class: u32, trace: &[u32], log: &[u32], out: &mut [u32]) -> Extracted
-    ensures value { result ≡ extract p class trace.now log.now out.old }
+pub fn extract(
+    p: Policy,
+    class: u32,
+    trace: &[u32],
+    log: &[u32],
+    out: &mut [u32],
+) -> Result<usize, Refusal>
+    ensures value { extracted_of result ≡ extract p class trace.now log.now out.old }
     ensures out_after { out.new ≡ out_after p class trace.now log.now out.old }
 {
     let named = order::is_class(p.classes, class as usize);
-    let seen = seen_by(p, masks::class_mask(class as usize) as u32);
+    let seen = seen_by(p, u32::from(masks::class_mask(class as usize)));
     extract_seen(p, named, seen, trace, log, out)
 }
 
 // W-211: the same for a set of classes, bit c of `set` for class c: what may flow to at least one of them is kept.
-pub fn extract_set(p: Policy, set: u32, trace: &[u32], log: &[u32], out: &mut [u32]) -> Extracted
-    ensures value { result ≡ extract_set p set trace.now log.now out.old }
+// Kept: beside `extract`, since each has its definition, its theorems (OneClass, SetLaws) and its function for C; both are one function inside.
+pub fn extract_set(
+    p: Policy,
+    set: u32,
+    trace: &[u32],
+    log: &[u32],
+    out: &mut [u32],
+) -> Result<usize, Refusal>
+    ensures value { extracted_of result ≡ extract_set p set trace.now log.now out.old }
     ensures out_after { out.new ≡ out_after_set p set trace.now log.now out.old }
 {
     let named = are_classes(p, set);

@@ -13,8 +13,8 @@ use lib.Dec.{leb, ltb, eqb, lit<}
 use lib.ListN.{length, get_or, get_or-eq_default}
 use Rattle.basics.specs.Below.{sum, list_of}
 use Rattle.masks.specs.Mask.{member}
-use Rattle.order.specs.Order.{is_class_in, flows_in, rows_fit, antisymmetric, transitive, has_least, cover_set}
-use Rattle.turns.specs.Turns.{minimums_sum, turns_sound, cap_in, minimums_below}
+use Rattle.order.specs.Order.{is_class_in, flows_in, rows_fit, antisymmetric, transitive, has_least}
+use Rattle.turns.specs.Turns.{minimums_sum, turns_sound, minimums_below}
 use Rattle.timing.specs.Timing.{within, timing_sound}
 use Rattle.policy.specs.Policy.{made, first_failing, policy_tests, refusal, in_range}
 use Rattle.file.specs.File.{byte, word, kind, start, body_size, kinds_fit, bodies_abut, contents_fit, class_count, lengths_fit, row_at, epoch_of, minimum_at, ranks_of, rank_gap_of, timing_of, held, file_tests, status, refused_with, read_file}
@@ -281,7 +281,7 @@ module _ (s : List ℕ) (given : Bytes s) (f : Form s) (l : Lengths s) where
 
 module _ (s : List ℕ) (given : Bytes s) where
   reflected : Reflected (file_tests s) (conditions s)
-  unfolding file_tests policy_tests held class_count
+  unfolding file_tests policy_tests held made class_count
   reflected =
       next (form-said s) (form-tested s)
       (λ f.
@@ -536,29 +536,21 @@ module _ (s : List ℕ) (h : Encoded s) where
       (either (eqb h.size 11))
 
   held-is : held s ≡ policy_of h.n h.row h.epoch h.minimum h.size h.timing
-  unfolding held policy_of class_count epoch_of timing_of
+  unfolding held made policy_of class_count epoch_of timing_of
   held-is =
       let e : byte s (start s 1) ≡ h.epoch = ap (byte s) turns-start ∙ h.encoded.epoch_byte in
       λ i.
-      record {
-        classes = count-is i;
-        rows = rows_are i;
-        epoch = e i;
-        minimums = minimums-are i;
-        timing =
-            record {
-              turn = timing-first i;
-              dead = timing-first-ten 1 (lit< tt) i;
-              gaps = timing-first-ten 2 (lit< tt) i ∷ timing-first-ten 3 (lit< tt) i ∷ timing-first-ten 4 (lit< tt) i ∷ timing-first-ten 5 (lit< tt) i ∷ [];
-              bank = timing-first-ten 6 (lit< tt) i ∷ timing-first-ten 7 (lit< tt) i ∷ [];
-              column = timing-first-ten 8 (lit< tt) i;
-              response = timing-first-ten 9 (lit< tt) i;
-              ranks = ranks_are i;
-              rank = rank_is i;
-            };
-        covers = list_of 16 (cover_set (rows_are i));
-        caps = list_of 16 (cap_in (count-is i) (rows_are i) (e i) (minimums-are i));
-      }
+      made (count-is i) (rows_are i) (e i) (minimums-are i)
+      (record {
+        turn = timing-first i;
+        dead = timing-first-ten 1 (lit< tt) i;
+        gaps = timing-first-ten 2 (lit< tt) i ∷ timing-first-ten 3 (lit< tt) i ∷ timing-first-ten 4 (lit< tt) i ∷ timing-first-ten 5 (lit< tt) i ∷ [];
+        bank = timing-first-ten 6 (lit< tt) i ∷ timing-first-ten 7 (lit< tt) i ∷ [];
+        column = timing-first-ten 8 (lit< tt) i;
+        response = timing-first-ten 9 (lit< tt) i;
+        ranks = ranks_are i;
+        rank = rank_is i;
+      })
 
 -- ---- in range
 

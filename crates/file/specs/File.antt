@@ -1,12 +1,18 @@
 -- The policy file: "A contents table, then the bodies." A file is a list of bytes.
-use Rattle.std.specs.Prelude.{Bool, cond, ◌&&◌, List, [], ◌∷◌, ℕ, ◌+◌, ◌*◌, ltb, eqb, length, get_or, replicate}
+use Rattle.std.specs.Prelude.{Bool, cond, ◌&&◌, List, [], ◌∷◌, ℕ, ◌+◌, ◌*◌, ltb, eqb, length, get_or}
 use Rattle.basics.specs.Below.{list_of}
-use Rattle.order.specs.Order.{cover_set}
-use Rattle.turns.specs.Turns.{cap_in}
 use Rattle.timing.specs.Timing.{within}
-use Rattle.policy.specs.Policy.{first_failing, policy_tests}
+use Rattle.policy.specs.Policy.{made, first_failing, policy_tests}
+-- "the policy of no classes, all zeros": the one of the policies' own definitions
+unfoldable pub use Rattle.policy.specs.Policy.{no_policy}
+use Rattle.std.specs.declared.result.Result.{Result}
+use Rattle.std.specs.declared.result.Result.TheVariants.{Ok, Err}
+use Rattle.refusals.specs.Refusal.{number}
+use Rattle.refusals.specs.declared.Refusal.{Refusal}
 use Rattle.timing.specs.declared.Timing.{Timing}
 use Rattle.policy.specs.declared.Policy.{Policy}
+use Rattle.file.specs.declared.Body.{Body}
+use Rattle.file.specs.declared.Body.TheVariants as bodies
 use Rattle.file.specs.declared.Reading.{Reading}
 
 -- the byte at a place; past the end, where none is read once 1 and 2 have passed, 0
@@ -18,6 +24,12 @@ unfoldable pub word : List ℕ → ℕ → ℕ
 word s at = byte s at + 256 * byte s (at + 1)
 
 -- ---- the contents table: "Byte 0 is 3. Then three entries of 5 bytes: kind .., start (16 bits), length (16 bits)". Entries are numbered from 0.
+
+-- the number of a body's entry
+unfoldable pub entry_of : Body → ℕ
+entry_of bodies.Order = 0
+entry_of bodies.Turns = 1
+entry_of bodies.Timing = 2
 
 unfoldable pub kind : List ℕ → ℕ → ℕ
 kind s e = byte s (1 + 5 * e)
@@ -94,32 +106,7 @@ timing_of s =
 
 -- the policy that the bodies hold, with its covers and caps
 unfoldable pub held : List ℕ → Policy
-held s =
-    let rows = list_of 16 (row_at s) in
-    let minimums = list_of 16 (minimum_at s) in
-    record {
-      classes = class_count s;
-      rows = rows;
-      epoch = epoch_of s;
-      minimums = minimums;
-      timing = timing_of s;
-      covers = list_of 16 (cover_set rows);
-      caps = list_of 16 (cap_in (class_count s) rows (epoch_of s) minimums);
-    }
-
--- "the policy of no classes, all zeros"
-unfoldable pub no_policy : Policy
-no_policy =
-    let zeros : List ℕ = replicate 16 0 in
-    record {
-      classes = 0;
-      rows = zeros;
-      epoch = 0;
-      minimums = zeros;
-      timing = record { turn = 0; dead = 0; gaps = replicate 4 0; bank = replicate 2 0; column = 0; response = 0; ranks = 0; rank = 0 };
-      covers = zeros;
-      caps = zeros;
-    }
+held s = made (class_count s) (list_of 16 (row_at s)) (epoch_of s) (list_of 16 (minimum_at s)) (timing_of s)
 
 -- ---- reading
 
@@ -133,6 +120,11 @@ status s = first_failing 1 (file_tests s)
 
 unfoldable pub refused_with : ℕ → Reading
 refused_with k = record { status = k; policy = no_policy }
+
+-- a refusal's number and that policy
+unfoldable pub reading_of : Result Policy Refusal → Reading
+reading_of (Ok p) = record { status = 0; policy = p }
+reading_of (Err r) = refused_with (number r)
 
 -- the answer: the policy that the file holds, or "A refused file gives the policy of no classes, all zeros"
 unfoldable pub read_file : List ℕ → Reading

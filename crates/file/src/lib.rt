@@ -2,169 +2,175 @@
 
 #![tactic(auto)]
 
-ghost use Rattle.std.specs.Prelude.{◌≡◌, ◌<◌};
-ghost use Rattle.file.specs.File.{byte, word, start, body_size, kinds_fit, bodies_abut, contents_fit, lengths_fit, row_at, minimum_at, ranks_of, rank_gap_of, timing_of, held, no_policy, refused_with, read_file};
-ghost use Rattle.basics.specs.Below.{list_of};
-ghost use Rattle.order.specs.Order.{cover_set};
-ghost use Rattle.turns.specs.Turns.{cap_in};
+ghost use Rattle.std.specs.Prelude.{◌≡◌, ◌<◌, eqb};
+ghost use Rattle.file.specs.File.{byte, word, entry_of, kind, start, body_size, kinds_fit, bodies_abut, contents_fit, lengths_fit, row_at, minimum_at, ranks_of, rank_gap_of, timing_of, held, reading_of, read_file};
 
 use policy::Policy;
+use refusals::Refusal;
+use std::array;
 use timing::Timing;
 
 // The answer of reading a policy file: 0 and the policy, or the number that refuses the file and the policy of no classes, all zeros.
+// Kept: a number beside a policy and no Result, since document 01 gives a policy with every answer, and the edit refused_file_has_a_class tries what is said of it on refusals.
 #[derive(Clone, Copy)]
 pub struct Reading {
     pub status: u32,
     pub policy: Policy,
 }
 
+// The bodies, in the order of their entries in the contents table.
+#[derive(Clone, Copy)]
+enum Body {
+    Order,
+    Turns,
+    Timing,
+}
+
 // The byte at a place, and 0 past the end.
+// Kept: one expression of the library's, here under the definition's name, and in `orders` and `script` under one of their own.
+#[tactic(auto, unfolding(crate::specs::File::byte))]
 fn byte(s: &[u8], at: usize) -> u8
     ensures { result ≡ byte s.now at }
 {
-    if at < s.len() { s[at] } else { 0 }
-}
-
-fn wide(x: u8) -> u32
-    ensures { result ≡ x }
-{
-    x as u32
+    s.get(at).copied().unwrap_or(0)
 }
 
 // Two bytes, the low one first.
+#[tactic(auto, unfolding(crate::specs::File::word))]
 fn word(s: &[u8], at: usize) -> u16
     requires { at < 1000000 }
     ensures { result ≡ word s.now at }
 {
-    (byte(s, at) as u16) + 256 * (byte(s, at + 1) as u16)
+    u16::from_le_bytes([byte(s, at), byte(s, at + 1)])
 }
 
 fn number(s: &[u8], at: usize) -> u32
     ensures { result ≡ byte s.now at }
 {
-    wide(byte(s, at))
+    u32::from(byte(s, at))
 }
 
-// The contents table's entries, numbered from 0: where a body starts, and how long it is.
-fn start(s: &[u8], entry: usize) -> u16
-    requires { entry < 3 }
-    ensures { result ≡ start s.now entry }
+// What the contents table says of a body: its kind, where it starts, and how long it is.
+#[tactic(auto, unfolding(crate::specs::File::kind, crate::specs::File::entry_of))]
+fn kind(s: &[u8], body: Body) -> u8
+    ensures { result ≡ kind s.now (entry_of body) }
 {
-    word(s, 2 + 5 * entry)
+    byte(s, 1 + 5 * (body as usize))
 }
 
-fn body_size(s: &[u8], entry: usize) -> u16
-    requires { entry < 3 }
-    ensures { result ≡ body_size s.now entry }
+#[tactic(auto, unfolding(crate::specs::File::start, crate::specs::File::entry_of))]
+fn start(s: &[u8], body: Body) -> usize
+    ensures value { result ≡ start s.now (entry_of body) }
+    ensures small { result < 65536 }
 {
-    word(s, 4 + 5 * entry)
+    usize::from(word(s, 2 + 5 * (body as usize)))
+}
+
+#[tactic(auto, unfolding(crate::specs::File::body_size, crate::specs::File::entry_of))]
+fn body_size(s: &[u8], body: Body) -> usize
+    ensures value { result ≡ body_size s.now (entry_of body) }
+    ensures small { result < 65536 }
+{
+    usize::from(word(s, 4 + 5 * (body as usize)))
 }
 
 // Each entry has its kind: 1 the order, 2 the turns, 3 the timing.
+#[tactic(auto, unfolding(crate::specs::File::kinds_fit, crate::specs::File::entry_of))]
 fn kinds_fit(s: &[u8]) -> bool
     ensures { result ≡ kinds_fit s.now }
 {
-    (byte(s, 0) == 3) & (byte(s, 1) == 1) & (byte(s, 6) == 2) & (byte(s, 11) == 3)
+    (byte(s, 0) == 3)
+        & (kind(s, Body::Order) == 1)
+        & (kind(s, Body::Turns) == 2)
+        & (kind(s, Body::Timing) == 3)
 }
 
 // The bodies follow from byte 16, abutting, and the last ends the file.
+#[tactic(auto, unfolding(crate::specs::File::bodies_abut, crate::specs::File::entry_of))]
 fn bodies_abut(s: &[u8]) -> bool
     ensures { result ≡ bodies_abut s.now }
 {
-    let turns = start(s, 1) as usize;
-    let timing = start(s, 2) as usize;
-    (start(s, 0) == 16)
-        & (turns == 16 + body_size(s, 0) as usize)
-        & (timing == turns + body_size(s, 1) as usize)
-        & (s.len() == timing + body_size(s, 2) as usize)
+    let turns = start(s, Body::Turns);
+    let timing = start(s, Body::Timing);
+    (start(s, Body::Order) == 16)
+        & (turns == 16 + body_size(s, Body::Order))
+        & (timing == turns + body_size(s, Body::Turns))
+        & (s.len() == timing + body_size(s, Body::Timing))
 }
 
 // 1: the file's size and its contents table.
+#[tactic(auto, unfolding(crate::specs::File::contents_fit, timing::specs::Timing::within))]
 fn contents_fit(s: &[u8]) -> bool
     ensures { result ≡ contents_fit s.now }
 {
-    (17 <= s.len()) & (s.len() <= 65535) & kinds_fit(s) & bodies_abut(s)
+    (17..=65535).contains(&s.len()) & kinds_fit(s) & bodies_abut(s)
 }
 
 // 2: the class count, and the bodies' lengths against it.
+#[tactic(auto, unfolding(crate::specs::File::lengths_fit, crate::specs::File::class_count, timing::specs::Timing::within, crate::specs::File::entry_of))]
 fn lengths_fit(s: &[u8]) -> bool
     ensures { result ≡ lengths_fit s.now }
 {
-    let n = byte(s, 16) as usize;
-    (1 <= n)
-        & (n <= 16)
-        & (body_size(s, 0) as usize == 1 + 2 * n)
-        & (body_size(s, 1) as usize == 1 + n)
-        & ((10 <= body_size(s, 2)) & (body_size(s, 2) <= 11))
+    let n = usize::from(byte(s, 16));
+    (1..=16).contains(&n)
+        & (body_size(s, Body::Order) == 1 + 2 * n)
+        & (body_size(s, Body::Turns) == 1 + n)
+        & (10..=11).contains(&body_size(s, Body::Timing))
 }
 
+#[tactic(auto, unfolding(crate::specs::File::row_at, crate::specs::File::class_count))]
 fn row_at(s: &[u8], i: usize) -> u16
-    requires { i < 16 }
     ensures { result ≡ row_at s.now i }
 {
-    if i < byte(s, 16) as usize {
+    if i < usize::from(byte(s, 16)) {
         word(s, 17 + 2 * i)
     } else {
         0
     }
 }
 
-fn rows_of(s: &[u8]) -> [u16; 16]
-    ensures { result ≡ list_of 16 (row_at s.now) }
-{
-    let mut rows = [0u16; 16];
-    let mut i = 0;
-    while i < 16 {
-        rows[i] = row_at(s, i);
-        i += 1;
-    }
-    rows
-}
-
+#[tactic(auto, unfolding(crate::specs::File::minimum_at, crate::specs::File::class_count, crate::specs::File::entry_of))]
 fn minimum_at(s: &[u8], i: usize) -> u32
-    requires { i < 16 }
     ensures { result ≡ minimum_at s.now i }
 {
-    if i < byte(s, 16) as usize {
-        number(s, start(s, 1) as usize + 1 + i)
+    if i < usize::from(byte(s, 16)) {
+        number(s, start(s, Body::Turns) + 1 + i)
     } else {
         0
     }
-}
-
-fn minimums_of(s: &[u8]) -> [u32; 16]
-    ensures { result ≡ list_of 16 (minimum_at s.now) }
-{
-    let mut minimums = [0u32; 16];
-    let mut i = 0;
-    while i < 16 {
-        minimums[i] = minimum_at(s, i);
-        i += 1;
-    }
-    minimums
 }
 
 // The timing body has an eleventh byte: four ranks, and the gap between them. Without it there is one rank.
+#[tactic(auto, unfolding(crate::specs::File::entry_of))]
+fn has_rank_gap(s: &[u8]) -> bool
+    ensures { result ≡ eqb (body_size s.now 2) 11 }
+{
+    body_size(s, Body::Timing) == 11
+}
+
+#[tactic(auto, unfolding(crate::specs::File::ranks_of))]
 fn ranks_of(s: &[u8]) -> u32
     ensures { result ≡ ranks_of s.now }
 {
-    if body_size(s, 2) == 11 { 4 } else { 1 }
+    if has_rank_gap(s) { 4 } else { 1 }
 }
 
+#[tactic(auto, unfolding(crate::specs::File::rank_gap_of, crate::specs::File::entry_of))]
 fn rank_gap_of(s: &[u8]) -> u32
     ensures { result ≡ rank_gap_of s.now }
 {
-    if body_size(s, 2) == 11 {
-        number(s, start(s, 2) as usize + 10)
+    if has_rank_gap(s) {
+        number(s, start(s, Body::Timing) + 10)
     } else {
         0
     }
 }
 
+#[tactic(auto, unfolding(crate::specs::File::timing_of, crate::specs::File::entry_of))]
 fn timing_of(s: &[u8]) -> Timing
     ensures { result ≡ timing_of s.now }
 {
-    let at = start(s, 2) as usize;
+    let at = start(s, Body::Timing);
     Timing {
         turn: number(s, at),
         dead: number(s, at + 1),
@@ -182,97 +188,44 @@ fn timing_of(s: &[u8]) -> Timing
     }
 }
 
-fn covers_in(rows: [u16; 16]) -> [u16; 16]
-    ensures { result ≡ list_of 16 (cover_set rows) }
-{
-    let mut covers = [0u16; 16];
-    let mut i = 0;
-    while i < 16 {
-        covers[i] = order::cover_set(rows, i);
-        i += 1;
-    }
-    covers
-}
-
-fn caps_in(classes: usize, rows: [u16; 16], epoch: u32, minimums: [u32; 16]) -> [u32; 16]
-    ensures { result ≡ list_of 16 (cap_in classes rows epoch minimums) }
-{
-    let mut caps = [0u32; 16];
-    let mut i = 0;
-    while i < 16 {
-        caps[i] = turns::cap_in(classes, rows, epoch, minimums, i);
-        i += 1;
-    }
-    caps
-}
-
 // The policy that the bodies hold.
 fn held(s: &[u8]) -> Policy
     ensures { result ≡ held s.now }
 {
-    let classes = byte(s, 16) as usize;
-    let rows = rows_of(s);
-    let epoch = number(s, start(s, 1) as usize);
-    let minimums = minimums_of(s);
+    let classes = usize::from(byte(s, 16));
+    let rows = array::from_fn(|i| row_at(s, i));
+    let epoch = number(s, start(s, Body::Turns));
+    let minimums = array::from_fn(|i| minimum_at(s, i));
     let timing = timing_of(s);
-    let covers = covers_in(rows);
-    let caps = caps_in(classes, rows, epoch, minimums);
-    Policy {
-        classes,
-        rows,
-        epoch,
-        minimums,
-        timing,
-        covers,
-        caps,
-    }
+    policy::made(classes, rows, epoch, minimums, timing)
 }
 
-// The policy of no classes, all zeros.
-fn no_policy() -> Policy
-    ensures { result ≡ no_policy }
+// The policy that the file holds, or what refuses it, the first of 1 to 8.
+#[tactic(auto, unfolding(crate::specs::File::reading_of, crate::specs::File::read_file, crate::specs::File::refused_with, crate::specs::File::status, crate::specs::File::file_tests, policy::specs::Policy::first_failing, policy::specs::Policy::refusal, refusals::specs::Refusal::number, refusals::specs::Refusal::status_of))]
+fn taken_policy(s: &[u8]) -> Result<Policy, Refusal>
+    ensures { reading_of result ≡ read_file s.now }
 {
-    Policy {
-        classes: 0,
-        rows: [0u16; 16],
-        epoch: 0,
-        minimums: [0u32; 16],
-        timing: Timing {
-            turn: 0,
-            dead: 0,
-            gaps: [0u32; 4],
-            bank: [0u32; 2],
-            column: 0,
-            response: 0,
-            ranks: 0,
-            rank: 0,
-        },
-        covers: [0u16; 16],
-        caps: [0u32; 16],
+    if !contents_fit(s) {
+        return Err(Refusal::Contents);
     }
-}
-
-fn refused(status: u32) -> Reading
-    ensures { result ≡ refused_with status }
-{
-    let policy = no_policy();
-    Reading { status, policy }
+    if !lengths_fit(s) {
+        return Err(Refusal::Lengths);
+    }
+    let policy = held(s);
+    policy::refusal(policy)?;
+    Ok(policy)
 }
 
 // Reads a policy file of any length and content: status 0 and the policy that it holds, or the first number of 1 to 8 that refuses it and the policy of no classes.
+#[tactic(auto, unfolding(crate::specs::File::reading_of, crate::specs::File::refused_with))]
 pub fn read(s: &[u8]) -> Reading
     ensures { result ≡ read_file s.now }
 {
-    if !contents_fit(s) {
-        return refused(1);
+    match taken_policy(s) {
+        Ok(policy) => Reading { status: 0, policy },
+        Err(refusal) => Reading {
+            status: refusal.number(),
+            policy: policy::none(),
+        },
     }
-    if !lengths_fit(s) {
-        return refused(2);
-    }
-    let policy = held(s);
-    let number = policy::refusal(policy);
-    if number != 0 {
-        return refused(number);
-    }
-    Reading { status: 0, policy }
 }

@@ -6,10 +6,6 @@ use Rattle.requests.specs.Sizes.{pending_places, bank_places}
 use Rattle.requests.specs.Word.{sound_word}
 use Rattle.flight.specs.declared.Flight.{Flight}
 
--- what is in flight, of its arrays and numbers
-abbrev pub flight_of : List ℕ → List ℕ → List ℕ → ℕ → Flight
-flight_of columns responses banks last = record { columns = columns; responses = responses; banks = banks; last = last }
-
 -- the word that is due at a cycle, 0 for none: what is pending stands at its due cycle modulo the pending places, which are more than any delay
 unfoldable pub due_at : List ℕ → ℕ → ℕ
 due_at pending t = get_or pending (t % pending_places) 0

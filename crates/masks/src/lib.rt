@@ -21,7 +21,7 @@ const BELOW_MASKS: [u16; 16] = [
 pub fn class_mask(class: usize) -> u16
     ensures { result ≡ class_mask class }
 {
-    if class < 16 { CLASS_MASKS[class] } else { 0 }
+    CLASS_MASKS.get(class).copied().unwrap_or(0)
 }
 
 // The mask of all classes below a number of 1 to 16. What other numbers give is open in document 01: here 0 gives the empty set, and a number above 16 all sixteen.
@@ -30,25 +30,21 @@ pub fn below_mask(number: usize) -> u16
 {
     if number == 0 {
         0
-    } else if number <= 16 {
-        BELOW_MASKS[number - 1]
     } else {
-        BELOW_MASKS[15]
+        BELOW_MASKS[number.min(16) - 1]
     }
 }
 
 // Whether the class is in the set. A number above 15, of which document 01 says nothing, is in none.
+#[tactic(auto, using(crate::proofs::Masks::no_member), unfolding(crate::specs::Mask::member))]
 pub fn has(set: u16, class: usize) -> bool
     ensures { result ≡ member set class }
 {
-    if class < 16 {
-        (set >> class) % 2 == 1
-    } else {
-        false
-    }
+    class < 16 && (set >> class) % 2 == 1
 }
 
 // Whether every class of `part` is in the set.
+#[tactic(auto, using(crate::proofs::Masks::or_includes))]
 pub fn includes(set: u16, part: u16) -> bool
     ensures { result ≡ includes set part }
 {
@@ -56,41 +52,34 @@ pub fn includes(set: u16, part: u16) -> bool
 }
 
 // The classes of the set that are not in `part`.
+#[tactic(auto, using(crate::proofs::Masks::without_is))]
 pub fn without(set: u16, part: u16) -> u16
     ensures { result ≡ difference set part }
 {
-    (set | part) ^ part
+    set & !part
 }
 
 // How many classes are in the set.
+#[tactic(auto, using(crate::proofs::Masks::size_is))]
 pub fn size(set: u16) -> usize
     ensures { result ≡ size set }
 {
-    let mut n = 0;
-    let mut i = 0;
-    while i < 16 {
-        if has(set, i) {
-            n += 1;
-        }
-        i += 1;
-    }
-    n
+    set.count_ones() as usize
 }
 
 // The class with the given number in the set, numbered from 1 by rising class number. Where there is none, which document 01 leaves open, 16: no class.
+// Kept: 16 and no Option: the clause is the number that the definition `nth` gives, and the two walks, which have shown that there is one, would take an Option apart at each class.
 pub fn nth(set: u16, number: usize) -> usize
     ensures { result ≡ nth set number }
 {
     let mut n = 0;
-    let mut i = 0;
-    while i < 16 {
+    for i in 0..16 {
         if has(set, i) {
             n += 1;
             if n == number {
                 return i;
             }
         }
-        i += 1;
     }
     16
 }

@@ -16,7 +16,7 @@ use Rattle.requests.specs.Sizes.{last_cycle}
 use Rattle.recordings.specs.Recording.{events_in, cycle_at, word_at, in_pairs, rises, due_fits, wires_sound, cores_sound, soundness}
 use Rattle.recordings.specs.Logged.{is_tick, word_shown, event_at, tick_in, ticks_in, recording_of, record_status}
 use Rattle.matched.specs.Made.{MadeSound}
-use Rattle.recordings.specs.declared.Soundness.TheVariants.{Sound}
+use Rattle.std.specs.declared.result.Result.TheVariants.{Ok}
 use Rattle.recordings.proofs.Recordings.{both-sound}
 use Rattle.recordings.proofs.Logged.{no-event, an-event}
 
@@ -158,7 +158,7 @@ module _ (trace log : List ℕ) (start delay : ℕ) (byte : delay ≤ 255) (befo
       let rising = rising-of false trace log start in
       and_both (in-pairs start hi r rising) (they-rise start hi r rising)
 
-  pub recordings-sound : soundness delay (recording_of true start trace log) (recording_of false start trace log) ≡ Sound
+  pub recordings-sound : soundness delay (recording_of true start trace log) (recording_of false start trace log) ≡ Ok tt
   recordings-sound = both-sound delay (recording_of true start trace log) (recording_of false start trace log) wires-are cores-are
 
 pub made-sound : MadeSound

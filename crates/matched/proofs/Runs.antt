@@ -27,11 +27,11 @@ use Rattle.rules.specs.Calls.{state_after, log_of}
 use Rattle.rules.proofs.Range.{ranged}
 use Rattle.rules.proofs.CallsKept.{fresh-fits}
 use Rattle.rules.proofs.Calls.{cut_state, cut-log, four_each, after-in-range}
-use Rattle.recordings.specs.Recording.{events_in, cycle_at, word_at, soundness, status_of}
+use Rattle.recordings.specs.Recording.{events_in, cycle_at, word_at, soundness}
 use Rattle.recordings.specs.Match.{partners, alone, rest_of, unmatched}
 use Rattle.recordings.specs.Logged.{ticks_in, recording_of, record_status}
-use Rattle.recordings.specs.declared.Soundness.TheVariants.{Sound}
-use Rattle.recordings.specs.declared.Alone.TheVariants.{NoEvent}
+use Rattle.std.specs.declared.result.Result.TheVariants.{Ok}
+use Rattle.std.specs.declared.option.Option.TheVariants.{None}
 use Rattle.recordings.proofs.Recordings.{wires-three, cores-two, sound-both}
 use Rattle.recordings.proofs.Matching.{are-partners, finds-none, alone-sound}
 use Rattle.recordings.proofs.Logged.{not_refused}
@@ -73,11 +73,9 @@ module _ (d : ℕ) where
   shift_word (c ∷ w ∷ r) (suc i) h = later-word (c + d) w (shifted d r) i ∙ shift_word r i (omega (arith, h, one_more c w r)) ∙ sym (later-word c w r i)
 
   -- so all have partners
-  no-event-alone : (wires cores : List ℕ) → soundness d wires cores ≡ Sound → shifted d wires ≡ cores → alone d wires cores ≡ NoEvent
-  unfolding status_of
+  no-event-alone : (wires cores : List ℕ) → soundness d wires cores ≡ Ok tt → shifted d wires ≡ cores → alone d wires cores ≡ None
   no-event-alone wires cores sound same =
-      let zero-status : status_of (soundness d wires cores) ≡ 0 = ap status_of sound in
-      let both = sound-both d wires cores zero-status in
+      let both = sound-both d wires cores sound in
       let count : events_in cores ≡ events_in wires = same_count cores wires (ap length (sym same) ∙ shift-long wires) in
       let step : (i : ℕ) → i < events_in wires → partners d wires cores i i ≡ true =
       λ i h.
@@ -85,10 +83,10 @@ module _ (d : ℕ) where
       (sym (ap (λ (l : List ℕ). word_at l i) (sym same) ∙ shift_word wires i h))
       (sym (ap (λ (l : List ℕ). cycle_at l i) (sym same) ∙ shift-cycle wires i h))
       in
-      sym (alone-sound d wires cores zero-status)
+      sym (alone-sound d wires cores sound)
       ∙ finds-none d wires cores (wires-three d wires both.0).1 (cores-two cores both.1).1 (events_in wires) step (refl, count)
 
-  nothing_left : (wires cores : List ℕ) → alone d wires cores ≡ NoEvent → unmatched d wires cores ≡ []
+  nothing_left : (wires cores : List ℕ) → alone d wires cores ≡ None → unmatched d wires cores ≡ []
   unfolding unmatched rest_of
   nothing_left wires cores none = ap (rest_of wires cores) none ∙ drop-length wires
 
@@ -168,7 +166,7 @@ module _ (p : Policy) (given : policy_in_range p ≡ true) where
   delay-byte : p.timing.response ≤ 255
   delay-byte = omega (arith, delay-small p fresh (fresh-fits p given))
 
-  sound : (before ws after : List ℕ) → soundness p.timing.response (stretch p true before ws after) (stretch p false before ws after) ≡ Sound
+  sound : (before ws after : List ℕ) → soundness p.timing.response (stretch p true before ws after) (stretch p false before ws after) ≡ Ok tt
   sound before ws after =
       let s = after_list before in
       ap₂ (soundness p.timing.response) (stretch-is true before ws after) (stretch-is false before ws after)
@@ -192,7 +190,7 @@ module _ (p : Policy) (given : policy_in_range p ≡ true) where
       ∙ sym (stretch-is false before ws after)
 
   none_alone : (before ws after : List ℕ) → quiet_after p before ≡ true → quiet_after p (before ++ ws) ≡ true
-      → alone p.timing.response (stretch p true before ws after) (stretch p false before ws after) ≡ NoEvent
+      → alone p.timing.response (stretch p true before ws after) (stretch p false before ws after) ≡ None
   none_alone before ws after first last =
       no-event-alone p.timing.response (stretch p true before ws after) (stretch p false before ws after) (sound before ws after) (moved before ws after first last)
 

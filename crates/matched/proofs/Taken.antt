@@ -14,38 +14,27 @@ use lib.ListN.{length, length-drop}
 use lib.Seq.{drop-length}
 use Rattle.basics.proofs.Truth.{either, false-unless, true-unless}
 use Rattle.basics.proofs.Below.{lt-or-ge}
-use Rattle.recordings.specs.Recording.{events_in, cycle_at, word_at, rises, soundness, status_of}
+use Rattle.recordings.specs.Recording.{events_in, cycle_at, word_at, rises, soundness}
 use Rattle.recordings.specs.Match.{partners, first_alone, alone, rest_of, unmatched}
 use Rattle.matched.specs.Taken.{Event, activate, response, is_activate, stands_at, IsEvent, due, word, Partners, HasPartner, Before, FirstWithout, AllHave, rest_from, Matching, Matches}
-use Rattle.recordings.specs.declared.Soundness.TheVariants.{Sound}
-use Rattle.recordings.specs.declared.Alone.{Alone}
-use Rattle.recordings.specs.declared.Alone.TheVariants.{NoEvent, Activate, Response}
+use Rattle.std.specs.declared.result.Result.TheVariants.{Ok}
+use Rattle.std.specs.declared.option.Option.TheVariants.{None}
 use Rattle.recordings.proofs.Recordings.{within, above, sound-both, wires-three, cores-two}
 use Rattle.recordings.proofs.Matching.{not_before, partners-word, partners-due, are-partners, InStep, ActivateAt, ResponseAt, EndAt, lone-activate, lone-response, finds-activate, finds-response, finds-none, alone-sound, ends}
 
 -- ---- places told apart
 
-unfoldable kind_of : Alone → ℕ
-kind_of NoEvent = 0
-kind_of (Activate at) = 1
-kind_of (Response at) = 2
-
-unfoldable number_of : Alone → ℕ
-number_of NoEvent = 0
-number_of (Activate at) = at
-number_of (Response at) = at
-
 same_place : (e f : Event) → stands_at e ≡ stands_at f → e ≡ f
-unfolding stands_at kind_of number_of
-same_place (activate i) (activate k) e = let twice = ap number_of e in let same : i ≡ k = omega (arith, twice) in ap activate same
-same_place (activate i) (response j) e = absurd (eqb-false 1 2 refl (ap kind_of e))
-same_place (response j) (activate i) e = absurd (eqb-false 2 1 refl (ap kind_of e))
-same_place (response j) (response k) e = let twice = ap number_of e in let same : j ≡ k = omega (arith, twice) in ap response same
+unfolding stands_at
+same_place (activate i) (activate k) e = let twice : 2 * i ≡ 2 * k = cc in let same : i ≡ k = omega (arith, twice) in ap activate same
+same_place (activate i) (response j) e = cc
+same_place (response j) (activate i) e = cc
+same_place (response j) (response k) e = let twice : 2 * j ≡ 2 * k = cc in let same : j ≡ k = omega (arith, twice) in ap response same
 
-no_place : (e : Event) → (stands_at e ≡ NoEvent) → ⊥
-unfolding stands_at kind_of
-no_place (activate i) e = eqb-false 1 0 refl (ap kind_of e)
-no_place (response j) e = eqb-false 2 0 refl (ap kind_of e)
+no_place : (e : Event) → (stands_at e ≡ None) → ⊥
+unfolding stands_at
+no_place (activate i) e = cc
+no_place (response j) e = cc
 
 -- of three truth values, two that are not the first are the same
 third : (a b c : Bool) → ((a ≡ b) → ⊥) → ((a ≡ c) → ⊥) → b ≡ c
@@ -165,7 +154,7 @@ module _ (delay : ℕ) (wires cores : List ℕ) where
 
     -- the check names the first without a partner, or all have one
     abbrev Named : Type 0
-    Named = ((e : Event) × FirstWithout delay wires cores e × (first_alone delay wires cores ≡ stands_at e)) ⊎ (AllHave delay wires cores × (first_alone delay wires cores ≡ NoEvent))
+    Named = ((e : Event) × FirstWithout delay wires cores e × (first_alone delay wires cores ≡ stands_at e)) ⊎ (AllHave delay wires cores × (first_alone delay wires cores ≡ None))
 
     names : Named
     unfolding stands_at
@@ -224,19 +213,15 @@ module _ (delay : ℕ) (wires cores : List ℕ) where
 
   -- ---- all of it
 
-  module _ (sound : soundness delay wires cores ≡ Sound) where
-    status-zero : status_of (soundness delay wires cores) ≡ 0
-    unfolding status_of
-    status-zero = ap status_of sound
-
+  module _ (sound : soundness delay wires cores ≡ Ok tt) where
     wires-up : rises wires ≡ true
-    wires-up = (wires-three delay wires (sound-both delay wires cores status-zero).0).1
+    wires-up = (wires-three delay wires (sound-both delay wires cores sound).0).1
 
     cores-up : rises cores ≡ true
-    cores-up = (cores-two cores (sound-both delay wires cores status-zero).1).1
+    cores-up = (cores-two cores (sound-both delay wires cores sound).1).1
 
     is-alone : first_alone delay wires cores ≡ alone delay wires cores
-    is-alone = alone-sound delay wires cores status-zero
+    is-alone = alone-sound delay wires cores sound
 
     named : (e : Event) → alone delay wires cores ≡ stands_at e → FirstWithout delay wires cores e
     named e q =
@@ -252,10 +237,10 @@ module _ (delay : ℕ) (wires cores : List ℕ) where
         (λ w. absurd (h.no_partner (w.0 e h.is_recorded)))
         (names wires-up cores-up)
 
-    none : alone delay wires cores ≡ NoEvent → AllHave delay wires cores
+    none : alone delay wires cores ≡ None → AllHave delay wires cores
     none q = ⊎_elim (λ w. absurd (no_place w.0 (sym w.2 ∙ is-alone ∙ q))) (λ w. w.0) (names wires-up cores-up)
 
-    none_only : AllHave delay wires cores → alone delay wires cores ≡ NoEvent
+    none_only : AllHave delay wires cores → alone delay wires cores ≡ None
     none_only all = ⊎_elim (λ w. absurd (w.1.no_partner (all w.0 w.1.is_recorded))) (λ w. sym is-alone ∙ w.1) (names wires-up cores-up)
 
     -- a rest that begins at an event is not empty

@@ -2,7 +2,7 @@
 use Rattle.std.specs.Prelude.{◌≡◌, true, false, List, ℕ, ◌≤◌}
 use Rattle.recordings.specs.Recording.{soundness}
 use Rattle.recordings.specs.Logged.{recording_of, record_status}
-use Rattle.recordings.specs.declared.Soundness.TheVariants.{Sound}
+use Rattle.std.specs.declared.result.Result.TheVariants.{Ok}
 
 -- recordings that are handed back with 0 are sound, under every delay that is a byte
 abbrev pub MadeSound : Type 0
@@ -11,4 +11,4 @@ MadeSound =
     → delay ≤ 255
     → record_status true trace log start wires ≡ 0
     → record_status false trace log start cores ≡ 0
-    → soundness delay (recording_of true start trace log) (recording_of false start trace log) ≡ Sound
+    → soundness delay (recording_of true start trace log) (recording_of false start trace log) ≡ Ok tt

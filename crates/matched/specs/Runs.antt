@@ -11,8 +11,8 @@ use Rattle.rules.specs.Calls.{state_after, log_of}
 use Rattle.recordings.specs.Recording.{soundness}
 use Rattle.recordings.specs.Match.{alone, unmatched}
 use Rattle.recordings.specs.Logged.{ticks_in, recording_of, record_status}
-use Rattle.recordings.specs.declared.Soundness.TheVariants.{Sound}
-use Rattle.recordings.specs.declared.Alone.TheVariants.{NoEvent}
+use Rattle.std.specs.declared.result.Result.TheVariants.{Ok}
+use Rattle.std.specs.declared.option.Option.TheVariants.{None}
 
 -- ---- where a log may be cut
 
@@ -43,11 +43,11 @@ module _ (p : Policy) where
 
   pub record RunMatches : Type 0 where
     -- both recordings of the stretch are sound, and all their events have partners
-    pub sound : (before ws after : List ℕ) → soundness p.timing.response (stretch true before ws after) (stretch false before ws after) ≡ Sound
+    pub sound : (before ws after : List ℕ) → soundness p.timing.response (stretch true before ws after) (stretch false before ws after) ≡ Ok tt
     pub all_matched : (before ws after : List ℕ) → quiet_after before ≡ true → quiet_after (before ++ ws) ≡ true
         → unmatched p.timing.response (stretch true before ws after) (stretch false before ws after) ≡ []
     pub none_alone : (before ws after : List ℕ) → quiet_after before ≡ true → quiet_after (before ++ ws) ≡ true
-        → alone p.timing.response (stretch true before ws after) (stretch false before ws after) ≡ NoEvent
+        → alone p.timing.response (stretch true before ws after) (stretch false before ws after) ≡ None
     -- a stretch is handed back where there is room for it: neither 17 nor 12 meets it
     pub handed_back : (activates : Bool) (before ws after out : List ℕ) → length (stretch activates before ws after) ≤ length out → record_status activates ws (cut_log before ws after) (start_of before) out ≡ 0
     -- where a log may be cut can be read off the log: nothing is in flight exactly if it shows as many answers as activates. It may be at its start.

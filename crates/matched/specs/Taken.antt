@@ -3,9 +3,11 @@
 use Rattle.std.specs.Prelude.{◌≡◌, ◌⊎◌, Bool, true, false, List, [], ℕ, ◌+◌, ◌*◌, ◌<◌, drop}
 use Rattle.recordings.specs.Recording.{events_in, cycle_at, word_at, soundness}
 use Rattle.recordings.specs.Match.{alone, unmatched}
-use Rattle.recordings.specs.declared.Soundness.TheVariants.{Sound}
+use Rattle.std.specs.declared.result.Result.TheVariants.{Ok}
+use Rattle.std.specs.declared.option.Option.{Option}
+use Rattle.std.specs.declared.option.Option.TheVariants.{None, Some}
 use Rattle.recordings.specs.declared.Alone.{Alone}
-use Rattle.recordings.specs.declared.Alone.TheVariants.{NoEvent, Activate, Response}
+use Rattle.recordings.specs.declared.Alone.TheVariants.{Activate, Response}
 
 -- an event: the i-th activate on the wires, or the j-th answer at the cores
 pub data Event : Type 0 where
@@ -18,9 +20,9 @@ is_activate (activate i) = true
 is_activate (response j) = false
 
 -- where it stands: the answer of `first_alone` that names it
-unfoldable pub stands_at : Event → Alone
-stands_at (activate i) = Activate (2 * i)
-stands_at (response j) = Response (2 * j)
+unfoldable pub stands_at : Event → Option Alone
+stands_at (activate i) = Some (Activate (2 * i))
+stands_at (response j) = Some (Response (2 * j))
 
 module _ (delay : ℕ) (wires cores : List ℕ) where
   -- the two recordings have it
@@ -84,11 +86,11 @@ module _ (delay : ℕ) (wires cores : List ℕ) where
     pub named_only : (e : Event) → FirstWithout e → alone delay wires cores ≡ stands_at e
     pub begins : (e : Event) → FirstWithout e → unmatched delay wires cores ≡ rest_from e
     -- none is named, and the rest is empty, exactly if all have partners
-    pub none : alone delay wires cores ≡ NoEvent → AllHave
-    pub none_only : AllHave → alone delay wires cores ≡ NoEvent
+    pub none : alone delay wires cores ≡ None → AllHave
+    pub none_only : AllHave → alone delay wires cores ≡ None
     pub empty : unmatched delay wires cores ≡ [] → AllHave
     pub empty_only : AllHave → unmatched delay wires cores ≡ []
 
 -- for every two recordings and every delay
 abbrev pub Matches : Type 0
-Matches = (delay : ℕ) (wires cores : List ℕ) → soundness delay wires cores ≡ Sound → Matching delay wires cores
+Matches = (delay : ℕ) (wires cores : List ℕ) → soundness delay wires cores ≡ Ok tt → Matching delay wires cores

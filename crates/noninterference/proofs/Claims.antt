@@ -31,8 +31,7 @@ use Rattle.rules.specs.PublicCalls.{PublicCall, trace_made}
 use Rattle.rules.proofs.RunLaws.{run-laws}
 use Rattle.masks.proofs.Masks.{member-power}
 use Rattle.extract.specs.Seen.{seen_by, seen_by_any, call_stays, stays, staying}
-use Rattle.extract.specs.Extract.{extract_of, kept_for, extract, out_after, are_classes, kept_for_set, extract_set, out_after_set}
-use Rattle.extract.specs.declared.Extracted.{Extracted}
+use Rattle.extract.specs.Extract.{Extracted, extract_of, kept_for, extract, out_after, are_classes, kept_for_set, extract_set, out_after_set}
 use Rattle.extract.proofs.Answers.{seen-alone, status-by, answer-is, out-is}
 use Rattle.shown.proofs.Sets.{alone-fits as set-fits, one_class, set-laws}
 use Rattle.noninterference.proofs.Low.{Downward}

@@ -198,9 +198,9 @@ module _ (n : ℕ) (rows : List ℕ) (given : Stored n rows) where
 
 module _ (rows : List ℕ) (i : ℕ) where
   -- a row without its own bit
-  pub above-is : difference (get_or rows i 0) (class_mask i) ≡ above_set rows i
+  pub above_is : difference (get_or rows i 0) (class_mask i) ≡ above_set rows i
   unfolding difference above_set strictly_in flows_in
-  above-is =
+  above_is =
       set_of-same (λ j. member (get_or rows i 0) j && not (member (class_mask i) j)) (strictly_in rows i) 16
       (λ j l. ap (λ (b : Bool). member (get_or rows i 0) j && not b) (member-class_mask i j l) ∙ and_comm (member (get_or rows i 0) j) (not (eqb i j)))
 
@@ -222,6 +222,6 @@ module _ (rows : List ℕ) (i : ℕ) where
       set_of-same (λ j. member (above_set rows i) j && not (member (above_some rows (above_set rows i)) j)) (covers_in rows i) 16
       (λ j l. ap₂ (λ (a b : Bool). a && not b) (member-above j l) (member-above_some j l))
 
-  pub above-size : size (above_set rows i) ≡ above_in rows i
+  pub above_size : size (above_set rows i) ≡ above_in rows i
   unfolding size above_in
-  above-size = count_same (member (above_set rows i)) (strictly_in rows i) 16 member-above
+  above_size = count_same (member (above_set rows i)) (strictly_in rows i) 16 member-above

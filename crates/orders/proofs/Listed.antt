@@ -3,15 +3,14 @@
 use mathlib.Core.Path.{◌≡◌, refl, sym, ◌∙◌}
 use mathlib.Core.Bool.{Bool, true, false, cond}
 use mathlib.Core.List.{List}
-use Prim.Native.Nat.{ℕ, ◌≤◌}
+use Prim.Native.Nat.{ℕ}
 use native.Mathlib.Omega.{arith}
-use borrow.Author.Tests.{leb-true}
-use lib.Dec.{leb, ltb}
+use lib.Dec.{ltb}
 use lib.ListN.{length, replicate}
 use Rattle.basics.specs.Below.{list_of}
 use Rattle.timing.specs.Timing.{within, timing_sound}
 use Rattle.orders.specs.Listed.{few, body_timing, fetch_status}
-use Rattle.basics.proofs.Truth.{and_left, and_right, on-either}
+use Rattle.basics.proofs.Truth.{on-either}
 use Rattle.basics.proofs.Below.{list_of-same}
 
 -- each question of three that are asked one after the other has passed where none refuses
@@ -25,15 +24,6 @@ module _ (n : ℕ) (body : List ℕ) (taken : fetch_status n body ≡ 0) where
   pub passed : (few n ≡ true) × (within 10 (length body) 11 ≡ true) × (timing_sound (body_timing body) ≡ true)
   unfolding fetch_status
   passed = all_pass (few n) (within 10 (length body) 11) (timing_sound (body_timing body)) taken
-
-  pub n-bounds : (1 ≤ n) × (n ≤ 4)
-  unfolding few within
-  n-bounds = (leb-true 1 n (and_left (leb 1 n) (leb n 4) passed.0), leb-true n 4 (and_right (leb 1 n) (leb n 4) passed.0))
-
-  pub size-bounds : (10 ≤ length body) × (length body ≤ 11)
-  unfolding within
-  size-bounds =
-      (leb-true 10 (length body) (and_left (leb 10 (length body)) (leb (length body) 11) passed.1), leb-true (length body) 11 (and_right (leb 10 (length body)) (leb (length body) 11) passed.1))
 
 -- "minimums 0"
 zeros : replicate 16 0 ≡ list_of 16 (λ i. 0)

@@ -2,12 +2,15 @@
 
 #![tactic(auto)]
 
-ghost use Rattle.std.specs.Prelude.{◌≡◌, cond, ◌≤◌, ◌+◌, ltb, eqb, length, get_or};
+ghost use Rattle.std.specs.Prelude.{◌≡◌, cond, ◌≤◌, ◌+◌, ltb, get_or};
 ghost use Rattle.basics.specs.Below.{list_of};
 ghost use Rattle.file.specs.File.{byte};
+ghost use Rattle.refusals.specs.Refusal.{status_of};
 ghost use Rattle.orders.specs.Listed.{count_of, first_of, small_orders, digit_of, row_at, body_timing, policy_at, fetch_status, fetched};
 
 use policy::Policy;
+use refusals::Refusal;
+use std::array;
 use timing::Timing;
 
 // The orders of one class, of two, of three and of four: each by rising value of its rows, of which each is a hexadecimal digit, row 0 first. They are the legal ones, all of them
@@ -23,40 +26,51 @@ const SMALL_ORDERS: [u16; 88] = [
     0xFE4C, 0xFEC8,
 ];
 
-// How many there are of so many classes, and where they begin.
-const COUNTS: [u32; 5] = [0, 1, 2, 9, 76];
-
-const FIRSTS: [u32; 5] = [0, 0, 1, 3, 12];
+// Where the orders of so many classes begin among them all, and how many there are.
+// Kept: two numbers and no part of the table: the definitions first_of and count_of give them, and a place is told past the last by the second alone.
+#[derive(Clone, Copy)]
+struct Listing {
+    first: u32,
+    count: u32,
+}
 
 // The answer of fetching an order: 0 and its policy, or the number that refuses it and the policy of no classes; which, with 0, also stands for a place past the last.
+// Kept: a struct and no Result, since a policy stands beside every number: the policy of no classes beside a refusal's, and beside 0 where the place is past the last (W-208), as the
+// theorems Fetches and HandedBack of specs/Policies.antt and their edits have it.
 #[derive(Clone, Copy)]
 pub struct Fetched {
     pub status: u32,
     pub policy: Policy,
 }
 
-fn count_of(n: u32) -> u32
-    ensures { result ≡ count_of n }
+#[tactic(auto, unfolding(crate::specs::Listed::count_of, crate::specs::Listed::first_of))]
+fn listing_of(n: u32) -> Listing
+    ensures first { result.first ≡ first_of n }
+    ensures count { result.count ≡ count_of n }
 {
-    let at = n as usize;
-    if at < 5 { COUNTS[at] } else { 0 }
-}
-
-fn first_of(n: u32) -> u32
-    ensures { result ≡ first_of n }
-{
-    let at = n as usize;
-    if at < 5 { FIRSTS[at] } else { 0 }
+    match n {
+        1 => Listing { first: 0, count: 1 },
+        2 => Listing { first: 1, count: 2 },
+        3 => Listing { first: 3, count: 9 },
+        4 => Listing {
+            first: 12,
+            count: 76,
+        },
+        _ => Listing { first: 0, count: 0 },
+    }
 }
 
 fn order_at(n: u32, place: u32) -> u16
     ensures { result ≡ get_or small_orders (first_of n + place) 0 }
 {
-    let at = first_of(n) as usize + place as usize;
-    if at < 88 { SMALL_ORDERS[at] } else { 0 }
+    let at = listing_of(n).first as usize + place as usize;
+    SMALL_ORDERS.get(at).copied().unwrap_or(0)
 }
 
 // Row i of an order: its digit, and 0 for a number that is no class.
+// Kept: that n is at most 4 is asked here, where a digit is shifted down, and by the two functions above it on the way from `fetch`; a type for a class count of 1 to 4 would be made
+// and opened again at each of them.
+#[tactic(auto, unfolding(crate::specs::Listed::digit_of))]
 fn row_of(n: usize, order: u16, i: usize) -> u16
     requires { n ≤ 4 }
     ensures { result ≡ cond (ltb i n) (digit_of n order i) 0 }
@@ -74,40 +88,30 @@ fn rows_at(n: u32, place: u32) -> [u16; 16]
 {
     let order = order_at(n, place);
     let classes = n as usize;
-    let mut rows = [0u16; 16];
-    let mut i = 0;
-    while i < 16 {
-        rows[i] = row_of(classes, order, i);
-        i += 1;
-    }
-    rows
+    array::from_fn(|i| row_of(classes, order, i))
 }
 
-// A byte of the timing body, and 0 past its end.
-fn byte_of(body: &[u8], at: usize) -> u8
-    ensures { result ≡ byte body.now at }
-{
-    if at < body.len() { body[at] } else { 0 }
-}
-
+// A number of the timing body: a byte, and 0 past its end.
+// Kept: one expression of the library's under a name, as in `file`.
+#[tactic(auto, unfolding(file::specs::File::byte))]
 fn number(body: &[u8], at: usize) -> u32
     ensures { result ≡ byte body.now at }
 {
-    byte_of(body, at) as u32
+    u32::from(body.get(at).copied().unwrap_or(0))
 }
 
-// Four ranks where the timing body has an eleventh byte, and one without it.
-fn ranks_in(size: usize) -> u32
-    ensures { result ≡ cond (eqb size 11) 4 1 }
-{
-    if size == 11 { 4 } else { 1 }
-}
-
-// The timing that a timing body holds. The eleventh byte is the gap between ranks; past the end of a body of ten stands 0, and one rank has no gap.
+// The timing that a timing body holds: four ranks and the gap between them where it has an eleventh byte, and one rank and no gap without it.
+// Kept: apart from file's timing_of, which goes by the contents table: there the body's length is a number of the file and its bytes end where the file does, so that one function for
+// both would take a length beside the slice.
+#[tactic(auto, unfolding(crate::specs::Listed::body_timing, file::specs::Taken::timing_from))]
 fn body_timing(body: &[u8]) -> Timing
-    requires { length body.now ≤ 11 }
     ensures { result ≡ body_timing body.now }
 {
+    let (ranks, rank) = if body.len() == 11 {
+        (4, number(body, 10))
+    } else {
+        (1, 0)
+    };
     Timing {
         turn: number(body, 0),
         dead: number(body, 1),
@@ -120,31 +124,32 @@ fn body_timing(body: &[u8]) -> Timing
         bank: [number(body, 6), number(body, 7)],
         column: number(body, 8),
         response: number(body, 9),
-        ranks: ranks_in(body.len()),
-        rank: number(body, 10),
+        ranks,
+        rank,
     }
 }
 
 // 20 for the class count, asked first; then 2 for the timing body's length and 8 for its numbers.
-fn refusal(n: u32, body: &[u8]) -> u32
-    ensures { result ≡ fetch_status n body.now }
+#[tactic(auto, unfolding(crate::specs::Listed::fetch_status, crate::specs::Listed::few, timing::specs::Timing::within, refusals::specs::Refusal::status_of, refusals::specs::Refusal::number))]
+fn refusal(n: u32, body: &[u8]) -> Result<(), Refusal>
+    ensures value { status_of result ≡ fetch_status n body.now }
+    ensures few { status_of result ≡ 0 → n ≤ 4 }
 {
-    if !((1 <= n) & (n <= 4)) {
-        return 20;
+    if !(1..=4).contains(&n) {
+        return Err(Refusal::SmallOrder);
     }
-    if !((10 <= body.len()) & (body.len() <= 11)) {
-        return 2;
+    if !(10..=11).contains(&body.len()) {
+        return Err(Refusal::Lengths);
     }
-    let timing = body_timing(body);
-    if !timing::timing_sound(timing) {
-        return 8;
+    if !timing::timing_sound(body_timing(body)) {
+        return Err(Refusal::Timing);
     }
-    0
+    Ok(())
 }
 
 // The policy of the order at a place: E = 4, minimums 0 and the timing of the body.
 fn policy_at(n: u32, place: u32, body: &[u8]) -> Policy
-    requires { (n ≤ 4) × (length body.now ≤ 11) }
+    requires { n ≤ 4 }
     ensures { result ≡ policy_at n place body.now }
 {
     let rows = rows_at(n, place);
@@ -154,18 +159,15 @@ fn policy_at(n: u32, place: u32, body: &[u8]) -> Policy
 
 // The order of n classes, 1 to 4, at a place from 0, as a policy with E = 4, minimums 0 and the timing of a timing body of ten or eleven bytes. Status 20 for another n, then 2 for
 // a body of another length, 8 for a number of it out of range; a refusal gives the policy of no classes, and so, with status 0, does a place past the last.
+#[tactic(auto, unfolding(crate::specs::Listed::fetched))]
 pub fn fetch(n: u32, place: u32, body: &[u8]) -> Fetched
     ensures { result ≡ fetched n place body.now }
 {
-    let status = refusal(n, body);
-    if status != 0 {
-        let policy = policy::none();
-        return Fetched { status, policy };
-    }
-    if place >= count_of(n) {
-        let policy = policy::none();
-        return Fetched { status, policy };
-    }
-    let policy = policy_at(n, place, body);
+    let status = refusals::status_of(refusal(n, body));
+    let policy = if (status == 0) & (place < listing_of(n).count) {
+        policy_at(n, place, body)
+    } else {
+        policy::none()
+    };
     Fetched { status, policy }
 }

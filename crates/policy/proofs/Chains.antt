@@ -15,10 +15,9 @@ use Rattle.basics.specs.Below.{some}
 use Rattle.masks.specs.Mask.{member}
 use Rattle.order.specs.Order.{strictly_in}
 use Rattle.order.specs.Chains.{rising, Longest}
-use Rattle.policy.specs.Policy.{is_class, flows, strictly, least, above, covers_of, in_range, walk_bound, bound_status, bound_for, longest_walk}
+use Rattle.policy.specs.Policy.{Bound, is_class, flows, strictly, least, above, covers_of, in_range, walk_bound, bound_status, bound_for, longest_walk}
 use Rattle.policy.specs.Laws.{OrderLaws, LeastLaws, CoverLaws, AboveLaws, ChainLaws}
 use Rattle.policy.specs.declared.Policy.{Policy}
-use Rattle.policy.specs.declared.Bound.{Bound}
 use Rattle.basics.proofs.Truth.{either, false-unless, not-both, and_left, and_right, and_both}
 use Rattle.basics.proofs.Below.{some-found}
 use Rattle.masks.proofs.Masks.{no-members}

@@ -8,3 +8,5 @@ pub mod Homes
 pub mod Chains
 -- of a policy that is made of numbers: when it is in range
 pub mod Making
+-- of the answers of this crate: what is taken has the status 0
+pub mod Refusals

@@ -13,8 +13,16 @@ use Rattle.turns.specs.Turns.{cap_in}
 use Rattle.timing.specs.Timing.{within}
 use Rattle.policy.specs.Policy.{made, covers_of, cap, minimum, is_class, refusal, shaped, stored_fits, all_stored_fits, in_range}
 use Rattle.timing.specs.declared.Timing.{Timing}
+use Rattle.policy.specs.declared.Policy.{Policy}
 use Rattle.basics.proofs.Truth.{either, and_both, or_left, or_right}
 use Rattle.basics.proofs.Below.{every-all, get_or-list_of, length-list_of}
+
+-- what the types of the fields say, one by one, is that the policy is shaped
+pub is-shaped : (p : Policy) → length p.rows ≡ 16 → length p.minimums ≡ 16 → length p.covers ≡ 16 → length p.caps ≡ 16 → ((i : ℕ) → i < 16 → get_or p.rows i 0 < 65536) → shaped p ≡ true
+unfolding shaped
+is-shaped p rows minimums covers caps bits =
+    and_both (and_both (and_both (and_both (eq-eqb _ 16 rows) (eq-eqb _ 16 minimums)) (eq-eqb _ 16 covers)) (eq-eqb _ 16 caps))
+    (every-all (λ i. ltb (get_or p.rows i 0) 65536) 16 (λ i l. lt-ltb (get_or p.rows i 0) 65536 (bits i l)))
 
 -- what the types of the fields say, and that what is no class has no minimum
 pub record Fit (n : ℕ) (rows minimums : List ℕ) : Type 0 where
@@ -26,13 +34,9 @@ pub record Fit (n : ℕ) (rows minimums : List ℕ) : Type 0 where
 
 module _ (n : ℕ) (rows : List ℕ) (epoch : ℕ) (minimums : List ℕ) (timing : Timing) (fit : Fit n rows minimums) where
   made_shaped : shaped (made n rows epoch minimums timing) ≡ true
-  unfolding shaped made
+  unfolding made
   made_shaped =
-      and_both
-      (and_both
-      (and_both (and_both (eq-eqb _ 16 fit.sixteen_rows) (eq-eqb _ 16 fit.sixteen_minimums)) (eq-eqb _ 16 (length-list_of (cover_set rows) 16)))
-      (eq-eqb _ 16 (length-list_of (cap_in n rows epoch minimums) 16)))
-      (every-all (λ i. ltb (get_or rows i 0) 65536) 16 (λ i l. lt-ltb (get_or rows i 0) 65536 (fit.row_bits i l)))
+      is-shaped (made n rows epoch minimums timing) fit.sixteen_rows fit.sixteen_minimums (length-list_of (cover_set rows) 16) (length-list_of (cap_in n rows epoch minimums) 16) fit.row_bits
 
   made-stored : all_stored_fits (made n rows epoch minimums timing) ≡ true
   unfolding all_stored_fits stored_fits covers_of cap is_class minimum made

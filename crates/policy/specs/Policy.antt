@@ -6,8 +6,11 @@ use Rattle.order.specs.Order.{is_class_in, flows_in, strictly_in, rows_fit, anti
 use Rattle.turns.specs.Turns.{turns_sound, cap_in, home_turn_in, home_place, home_at}
 use Rattle.timing.specs.Timing.{timing_sound, within}
 use Rattle.timing.specs.declared.Timing.{Timing}
+use Rattle.std.specs.declared.result.Result.{Result}
+use Rattle.std.specs.declared.result.Result.TheVariants.{Ok, Err}
+use Rattle.refusals.specs.Refusal.{number}
+use Rattle.refusals.specs.declared.Refusal.{Refusal}
 use Rattle.policy.specs.declared.Policy.{Policy}
-use Rattle.policy.specs.declared.Bound.{Bound}
 
 -- i is a class of this policy
 unfoldable pub is_class : Policy → ℕ → Bool
@@ -143,6 +146,15 @@ walk_bound p c = longest_in p.rows c
 -- what refuses the question: 13, a policy out of range; then 9, "class not below n". 0 where neither does.
 unfoldable pub bound_status : Policy → ℕ → ℕ
 bound_status p c = cond (in_range p) (cond (is_class p c) 0 9) 13
+
+-- an answer: how many classes a walk tries at most, and the status: 0, or the number that refuses the question; then the bound is 0
+pub record Bound : Type 0 where
+  pub status : ℕ
+  pub classes : ℕ
+
+unfoldable pub bound_of : Result ℕ Refusal → Bound
+bound_of (Ok n) = record { status = 0; classes = n }
+bound_of (Err r) = record { status = number r; classes = 0 }
 
 -- the answer: the bound, and 0 where the question is refused
 unfoldable pub bound_for : Policy → ℕ → Bound

@@ -6,10 +6,6 @@ use Rattle.requests.specs.Sizes.{ring_places, most_passed}
 use Rattle.requests.specs.Word.{class_of, sound_word}
 use Rattle.queues.specs.declared.Queues.{Queues}
 
--- the queues, of their arrays
-abbrev pub queues_of : List ℕ → List ℕ → List ℕ → List ℕ → Queues
-queues_of slots heads lengths passed = record { slots = slots; heads = heads; lengths = lengths; passed = passed }
-
 unfoldable pub head_of : Queues → ℕ → ℕ
 head_of q c = get_or q.heads c 0
 

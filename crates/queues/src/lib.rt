@@ -2,10 +2,9 @@
 
 #![tactic(auto)]
 
-ghost use Rattle.std.specs.Prelude.{◌≡◌, ◌||◌, ◌%◌, ◌<◌, leb, get_or};
+ghost use Rattle.std.specs.Prelude.{◌≡◌, ◌%◌, ◌<◌};
 ghost use Rattle.basics.specs.Below.{every};
-ghost use Rattle.requests.specs.Sizes.{ring_places};
-ghost use Rattle.queues.specs.Waiting.{place, queues_of, right_word, ring_in_range, queue_in_range};
+ghost use Rattle.queues.specs.Waiting.{place, right_word, queue_in_range};
 
 use requests::words;
 
@@ -18,7 +17,8 @@ pub type Slots = [u32; 128];
 pub const MOST_PASSED: usize = 15;
 
 // The waiting requests, by their words: a ring of eight places for each class, at eight times the class.
-#[derive(Clone, Copy)]
+// Kept: four lists, each with an entry or a ring for every class, are what the definitions head_of, length_of, passed_of and waiting_at read.
+#[derive(Clone, Copy, PartialEq, Eq)]
 pub struct Queues {
     pub slots: Slots,
     // The place of each class's oldest request in its ring.
@@ -31,13 +31,16 @@ pub struct Queues {
 
 // Where the k-th request from a class's oldest is stored. Of a number above 15, which is no class and of which document 01 says nothing, it is the ring of the number
 // modulo 16.
+#[tactic(auto, unfolding(crate::specs::Waiting::place))]
 pub fn place(class: usize, head: usize, k: usize) -> usize
-    ensures { result ≡ place (class % 16) head k }
+    ensures value { result ≡ place (class % 16) head k }
+    ensures small { result < 128 }
 {
     RING_PLACES * (class % 16) + (head % RING_PLACES + k % RING_PLACES) % RING_PLACES
 }
 
 // A stored word is that of a sound request of the class.
+// Kept: class count and ranks side by side, here and below, as the definitions right_word and queue_in_range take them.
 fn right_word(classes: usize, ranks: u32, class: usize, word: u32) -> bool
     ensures { result ≡ right_word classes ranks class word }
 {
@@ -45,69 +48,26 @@ fn right_word(classes: usize, ranks: u32, class: usize, word: u32) -> bool
     words::sound_word(classes, ranks, word) & (of == class)
 }
 
-// Every waiting request of a class is right.
-fn words_in_range(
-    classes: usize,
-    ranks: u32,
-    slots: &Slots,
-    class: usize,
-    head: usize,
-    length: usize,
-) -> bool
-    requires { (class < 16) × (head < ring_places) }
-    ensures { result
-        ≡ every ring_places (λ k. leb length k || right_word classes ranks class (get_or slots.now (place class head k) 0)) }
-{
-    let mut k = 0;
-    while k < RING_PLACES {
-        let place = place(class, head, k);
-        if !((length <= k) | right_word(classes, ranks, class, slots[place])) {
-            return false;
-        }
-        k += 1;
-    }
-    true
-}
-
-fn ring_in_range(
-    classes: usize,
-    ranks: u32,
-    slots: &Slots,
-    class: usize,
-    head: usize,
-    length: usize,
-) -> bool
+// A class's queue is in range: its length, its head, every waiting request in its ring, and how many have passed its oldest.
+// Kept: that a class is below 16 is asked, as in `scheduler`.
+#[tactic(auto, unfolding(crate::specs::Waiting::place))]
+fn queue_in_range(classes: usize, ranks: u32, queues: &Queues, class: usize) -> bool
     requires { class < 16 }
-    ensures { result ≡ ring_in_range classes ranks slots.now class head length }
+    ensures { result ≡ queue_in_range classes ranks queues.now class }
 {
-    if RING_PLACES < length {
-        return false;
-    }
-    if RING_PLACES <= head {
-        return false;
-    }
-    words_in_range(classes, ranks, slots, class, head, length)
+    let head = queues.heads[class];
+    let length = queues.lengths[class];
+    (length <= RING_PLACES)
+        & (head < RING_PLACES)
+        & (0..RING_PLACES).all(|k| {
+            (length <= k) | right_word(classes, ranks, class, queues.slots[place(class, head, k)])
+        })
+        & (queues.passed[class] <= MOST_PASSED)
 }
 
-// Every class's queue is in range, and no more have passed its oldest than may.
-pub fn queues_in_range(
-    classes: usize,
-    ranks: u32,
-    slots: &Slots,
-    heads: &[usize; 16],
-    lengths: &[usize; 16],
-    passed: &[usize; 16],
-) -> bool
-    ensures { result
-        ≡ every 16 (queue_in_range classes ranks (queues_of slots.now heads.now lengths.now passed.now)) }
+// Every class's queue is in range.
+pub fn queues_in_range(classes: usize, ranks: u32, queues: &Queues) -> bool
+    ensures { result ≡ every 16 (queue_in_range classes ranks queues.now) }
 {
-    let mut class = 0;
-    while class < 16 {
-        let fits = ring_in_range(classes, ranks, slots, class, heads[class], lengths[class]);
-        if !(fits & (passed[class] <= MOST_PASSED)) {
-            return false;
-        }
-        class += 1;
-    }
-    true
+    (0..16).all(|class| queue_in_range(classes, ranks, queues, class))
 }

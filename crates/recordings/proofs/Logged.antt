@@ -2,7 +2,7 @@
 -- Assumes nothing.
 use mathlib.Core.Path.{◌≡◌, refl, sym, ap, ap₂, ◌∙◌}
 use mathlib.Core.Logic.{⊎_elim}
-use mathlib.Core.Bool.{Bool, true, false, cond}
+use mathlib.Core.Bool.{Bool, true, false, cond, not}
 use mathlib.Core.List.{List, [], ◌∷◌, ◌++◌, append-nil, append_assoc}
 use Prim.Native.Nat.{ℕ, suc, ◌+◌, ◌*◌, ◌≤◌, ◌<◌}
 use native.Mathlib.Numerals.{add-one}
@@ -10,11 +10,19 @@ use native.Mathlib.Omega.{arith}
 use borrow.Author.Tests.{eq-eqb, ne_eqb, le-leb, lt-leb}
 use lib.Dec.{eqb}
 use lib.ListN.{length, get_or, take, drop, length-append, take-append-drop}
-use lib.Seq.{length-take-le, take-suc, get_or-drop, drop-drop, sets}
+use lib.Seq.{take_all, length-take-le, take-suc, get_or-drop, drop-drop, sets}
+use Rattle.basics.specs.Below.{count}
 use Rattle.basics.proofs.Truth.{either}
 use Rattle.basics.proofs.Stores.{written-more}
 use Rattle.requests.specs.Sizes.{last_cycle}
-use Rattle.recordings.specs.Logged.{is_tick, word_shown, event_at, tick_in, ticks_in, recording_of, record_status, written, recorded, out_after}
+use Rattle.requests.proofs.Trace.{four-times}
+use Rattle.recordings.proofs.Counts.{counted_up}
+use Rattle.std.specs.Result.{result_unwrap_or}
+use Rattle.std.specs.declared.result.Result.{Result}
+use Rattle.std.specs.declared.result.Result.TheVariants.{Ok, Err}
+use Rattle.refusals.specs.declared.Refusal.{Refusal}
+use Rattle.refusals.specs.Refusal.{status_of}
+use Rattle.recordings.specs.Logged.{is_tick, word_shown, event_at, tick_in, ticks_in, recording_of, record_status, counted}
 
 -- ---- one event
 
@@ -28,25 +36,25 @@ pub an-event : (t w : ℕ) → ((w ≡ 0) → ⊥) → event_at t w ≡ t ∷ w 
 unfolding event_at
 an-event t w some = rw (ne_eqb w 0 some)
 
--- its length goes by the word alone
-event-size : (t u w : ℕ) → length (event_at t w) ≡ length (event_at u w)
+-- an event has two numbers
+two-or-none : (t w : ℕ) → length (event_at t w) ≡ cond (not (eqb w 0)) 2 0
 unfolding event_at
-event-size t u w = ⊎_elim (λ (e : eqb w 0 ≡ true). rw e refl) (λ (e : eqb w 0 ≡ false). rw e refl) (either (eqb w 0))
+two-or-none t w = ⊎_elim (λ (e : eqb w 0 ≡ true). rw e refl) (λ (e : eqb w 0 ≡ false). rw e refl) (either (eqb w 0))
 
 -- a line of what stands from n on
-pub tick-past : (w : ℕ) (log : List ℕ) (n : ℕ) → tick_in w (drop n log) 0 ≡ tick_in w log n
+tick-past : (w : ℕ) (log : List ℕ) (n : ℕ) → tick_in w (drop n log) 0 ≡ tick_in w log n
 unfolding tick_in
 tick-past w log n = ap (λ (x : ℕ). cond (is_tick w x) 1 0) (get_or-drop n log 0 0 ∙ ap (λ (i : ℕ). get_or log i 0) (omega arith))
 
 -- a tick or none
-pub tick-most : (w : ℕ) (log : List ℕ) (from : ℕ) → tick_in w log from ≤ 1
+tick-most : (w : ℕ) (log : List ℕ) (from : ℕ) → tick_in w log from ≤ 1
 unfolding tick_in
 tick-most w log from =
     ⊎_elim (λ (e : is_tick w (get_or log from 0) ≡ true). rw e (omega arith)) (λ (e : is_tick w (get_or log from 0) ≡ false). rw e (omega arith)) (either (is_tick w (get_or log from 0)))
 
 -- ---- ticks
 
-pub ticks-append : (xs ys log : List ℕ) → ticks_in (xs ++ ys) log ≡ ticks_in xs log + ticks_in ys (drop (4 * length xs) log)
+ticks-append : (xs ys log : List ℕ) → ticks_in (xs ++ ys) log ≡ ticks_in xs log + ticks_in ys (drop (4 * length xs) log)
 unfolding ticks_in
 ticks-append [] ys log = omega arith
 ticks-append (x ∷ xs) ys log =
@@ -63,15 +71,22 @@ ticks-more trace log i h =
     let line : tick_in w (drop (4 * length (take i trace)) log) 0 ≡ tick_in w log (4 * i) = ap (λ (n : ℕ). tick_in w (drop (4 * n) log) 0) size ∙ tick-past w log (4 * i) in
     rw (add-one i) (ap (λ (l : List ℕ). ticks_in l log) (take-suc trace i 0 h) ∙ omega (arith, cut, line))
 
+-- so they are those of the trace numbers that are ticks
+pub ticks-counted : (trace log : List ℕ) → count (length trace) (λ i. is_tick (get_or trace i 0) (get_or log (4 * i) 0)) ≡ ticks_in trace log
+unfolding ticks_in tick_in
+ticks-counted trace log =
+    let all = counted_up (λ i. is_tick (get_or trace i 0) (get_or log (4 * i) 0)) (λ i. ticks_in (take i trace) log) 1 (length trace) refl (ticks-more trace log) in
+    omega (arith, all, ap (λ (l : List ℕ). ticks_in l log) (take_all (length trace) trace (omega arith)))
+
 pub ticks-part : (trace log : List ℕ) (n : ℕ) → ticks_in (take n trace) log ≤ ticks_in trace log
 ticks-part trace log n =
     let cut = ap (λ (l : List ℕ). ticks_in l log) (sym (take-append-drop n trace)) ∙ ticks-append (take n trace) (drop n trace) log in
     omega (arith, cut)
 
-pub ticks-few : (trace log : List ℕ) → ticks_in trace log ≤ length trace
+pub ticks_few : (trace log : List ℕ) → ticks_in trace log ≤ length trace
 unfolding ticks_in
-ticks-few [] log = omega arith
-ticks-few (w ∷ ws) log = omega (arith, tick-most w log 0, ticks-few ws (drop 4 log))
+ticks_few [] log = omega arith
+ticks_few (w ∷ ws) log = omega (arith, tick-most w log 0, ticks_few ws (drop 4 log))
 
 -- ---- recordings
 
@@ -82,15 +97,6 @@ module _ (activates : Bool) where
       let at : (k : ℕ) → get_or (drop n log) k 0 ≡ get_or log (n + k) 0 = λ k. get_or-drop n log k 0 in
       let here : get_or (drop n log) 0 0 ≡ get_or log n 0 = at 0 ∙ ap (λ (i : ℕ). get_or log i 0) (omega arith) in
       rw (here, at 1, at 2)
-
-  -- the cycle at the start does not matter to how long it is
-  pub same_size : (ws log : List ℕ) (t u : ℕ) → length (recording_of activates t ws log) ≡ length (recording_of activates u ws log)
-  unfolding recording_of
-  same_size [] log t u = refl
-  same_size (w ∷ ws) log t u =
-      length-append (event_at t (word_shown activates w log 0)) _
-      ∙ ap₂ ◌+◌ (event-size t u (word_shown activates w log 0)) (same_size ws (drop 4 log) (t + tick_in w log 0) (u + tick_in w log 0))
-      ∙ sym (length-append (event_at u (word_shown activates w log 0)) _)
 
   -- a trace cut in two
   pub recording-append : (xs ys log : List ℕ) (t : ℕ)
@@ -136,23 +142,17 @@ module _ (activates : Bool) where
   size-more : (trace log : List ℕ) (t i : ℕ) → i < length trace → length (recording_of activates t (take (i + 1) trace) log) ≡ length (recording_of activates t (take i trace) log) + length (event_of trace log t i)
   size-more trace log t i h = ap length (recording-more trace log t i h) ∙ length-append (recording_of activates t (take i trace) log) (event_of trace log t i)
 
-  -- a number that shows a word adds two, and another none
-  pub size-two : (trace log : List ℕ) (t i : ℕ)
-      → i < length trace
-      → ((word_shown activates (get_or trace i 0) log (4 * i) ≡ 0) → ⊥)
-      → length (recording_of activates t (take (i + 1) trace) log) ≡ length (recording_of activates t (take i trace) log) + 2
-  size-two trace log t i h some =
-      size-more trace log t i h
-      ∙ ap (λ (l : List ℕ). length (recording_of activates t (take i trace) log) + length l) (an-event (t + ticks_in (take i trace) log) (word_shown activates (get_or trace i 0) log (4 * i)) some)
+  -- so the trace numbers that show a word count it
+  pub size-counted : (trace log : List ℕ) (t : ℕ) → 2 * count (length trace) (λ i. not (eqb (word_shown activates (get_or trace i 0) log (4 * i)) 0)) ≡ length (recording_of activates t trace log)
+  unfolding recording_of
+  size-counted trace log t =
+      counted_up (λ i. not (eqb (word_shown activates (get_or trace i 0) log (4 * i)) 0)) (λ i. length (recording_of activates t (take i trace) log)) 2 (length trace) refl
+      (λ i h. size-more trace log t i h ∙ ap (λ (n : ℕ). length (recording_of activates t (take i trace) log) + n) (two-or-none (t + ticks_in (take i trace) log) (word_shown activates (get_or trace i 0) log (4 * i))))
+      ∙ ap (λ (l : List ℕ). length (recording_of activates t l log)) (take_all (length trace) trace (omega arith))
 
-  pub size_same : (trace log : List ℕ) (t i : ℕ)
-      → i < length trace
-      → word_shown activates (get_or trace i 0) log (4 * i) ≡ 0
-      → length (recording_of activates t (take (i + 1) trace) log) ≡ length (recording_of activates t (take i trace) log)
-  size_same trace log t i h none =
-      size-more trace log t i h
-      ∙ ap (λ (l : List ℕ). length (recording_of activates t (take i trace) log) + length l) (no-event (t + ticks_in (take i trace) log) (word_shown activates (get_or trace i 0) log (4 * i)) none)
-      ∙ omega arith
+  -- and the cycle at the start does not matter to how long it is
+  pub same_size : (trace log : List ℕ) (t u : ℕ) → length (recording_of activates t trace log) ≡ length (recording_of activates u trace log)
+  same_size trace log t u = sym (size-counted trace log t) ∙ size-counted trace log u
 
   -- so an event has room where the whole has
   pub event-fits : (trace log : List ℕ) (t i room : ℕ)
@@ -184,39 +184,31 @@ module _ (activates : Bool) where
 
 -- ---- the answers of a call
 
-module _ (activates : Bool) (trace log : List ℕ) (start : ℕ) (out : List ℕ) where
-  abbrev made : List ℕ
-  made = recording_of activates start trace log
+-- the two numbers of an answer, as the code takes them
+pub counted-status : (r : Result ℕ Refusal) → status_of r ≡ (counted r).status
+unfolding counted status_of
+counted-status (Ok n) = refl
+counted-status (Err f) = refl
 
-  pub refused-17 : eqb (length log) (4 * length trace) ≡ false → record_status activates trace log start out ≡ 17
+pub counted-count : (r : Result ℕ Refusal) → result_unwrap_or r 0 ≡ (counted r).count
+unfolding counted
+counted-count (Ok n) = refl
+counted-count (Err f) = refl
+
+module _ (activates : Bool) (trace log : List ℕ) (start : ℕ) (out : List ℕ) (lengths : length log ≡ 4 * length trace) where
+  -- where the lengths fit, 12 refuses one that ends too late
+  pub refused-12 : last_cycle < start + ticks_in trace log → record_status activates trace log start out ≡ 12
   unfolding record_status
-  refused-17 e = rw e
+  refused-12 late = rw (eq-eqb (length log) (4 * length trace) lengths, lt-leb (start + ticks_in trace log) last_cycle late)
 
-  -- where 17 does not refuse it
-  module _ (lengths : length log ≡ 4 * length trace) where
-    pub refused-12 : last_cycle < start + ticks_in trace log → record_status activates trace log start out ≡ 12
-    unfolding record_status
-    refused-12 h = rw (eq-eqb (length log) (4 * length trace) lengths, lt-leb (start + ticks_in trace log) last_cycle h)
+  -- and nothing one that ends in time and has room
+  pub not_refused : start + ticks_in trace log ≤ last_cycle → length (recording_of activates start trace log) ≤ length out → record_status activates trace log start out ≡ 0
+  unfolding record_status
+  not_refused ends room =
+      rw (eq-eqb (length log) (4 * length trace) lengths, le-leb (start + ticks_in trace log) last_cycle ends, le-leb (length (recording_of activates start trace log)) (length out) room)
 
-    -- nor 12
-    module _ (ends : start + ticks_in trace log ≤ last_cycle) where
-      pub refused-16 : length out < length made → record_status activates trace log start out ≡ 16
-      unfolding record_status
-      refused-16 h = rw (eq-eqb (length log) (4 * length trace) lengths, le-leb (start + ticks_in trace log) last_cycle ends, lt-leb (length made) (length out) h)
+-- what `make` goes by
+pub ruleset making = (ticks_few, same_size, four-times)
 
-      pub not_refused : length made ≤ length out → record_status activates trace log start out ≡ 0
-      unfolding record_status
-      not_refused h = rw (eq-eqb (length log) (4 * length trace) lengths, le-leb (start + ticks_in trace log) last_cycle ends, le-leb (length made) (length out) h)
-
-  -- a refused call writes nothing, and hands back a count of 0
-  pub refused : (n : ℕ) → eqb n 0 ≡ false → record_status activates trace log start out ≡ n → (record { status = n; count = 0 } ≡ recorded activates trace log start out) × (out ≡ out_after activates trace log start out)
-  unfolding recorded out_after
-  refused n some e = (rw (e, some), rw (e, some))
-
-  pub taken : {n : ℕ} → record_status activates trace log start out ≡ 0 → n ≡ length made → record { status = 0; count = n } ≡ recorded activates trace log start out
-  unfolding recorded
-  taken e k = rw (e, k)
-
-  pub out_written : record_status activates trace log start out ≡ 0 → written made out ≡ out_after activates trace log start out
-  unfolding out_after
-  out_written e = rw e
+-- what `Lines::write` goes by
+pub ruleset writing = (ticks-more, ticks-part, event-fits, event-more)

@@ -13,13 +13,17 @@ use lib.Dec.{eqb, leb, ltb}
 use Rattle.basics.specs.Below.{some, first}
 use Rattle.basics.proofs.Truth.{either, false-unless, not-both, not-not, not-true, and_left, and_right, and_both, or_left, or_right}
 use Rattle.basics.proofs.Below.{lt-or-ge, some_at, some-found, none-at, first-is, first-none, first_found, first_some}
-use lib.ListN.{length, get_or, take, drop, length-drop}
+use lib.ListN.{length, take, drop, length-drop}
 use lib.Seq.{take_all}
-use Rattle.recordings.specs.Recording.{events_in, cycle_at, word_at, rises, wires_sound, cores_sound, soundness, status_of}
+use Rattle.recordings.specs.Recording.{events_in, cycle_at, word_at, rises, wires_sound, cores_sound, soundness}
 use Rattle.recordings.specs.Match.{partners, activate_alone, response_alone, first_activate, first_response, taken_first, first_alone, alone}
+use Rattle.std.specs.declared.result.Result.TheVariants.{Ok, Err}
+use Rattle.recordings.specs.declared.Fault.{Fault}
 use Rattle.recordings.specs.declared.Alone.{Alone}
-use Rattle.recordings.specs.declared.Alone.TheVariants.{NoEvent, Activate, Response}
-use Rattle.recordings.proofs.Recordings.{within, above, not-two, sound-both, unsound-one}
+use Rattle.std.specs.declared.option.Option.{Option}
+use Rattle.std.specs.declared.option.Option.TheVariants.{None, Some}
+use Rattle.recordings.specs.declared.Alone.TheVariants.{Activate, Response}
+use Rattle.recordings.proofs.Recordings.{within, above, sound-both, unsound-one, wires-three, cores-two}
 
 -- a test that fails at every number below a bound passes at none
 some-fails : (f : ℕ → Bool) (n : ℕ) → ((i : ℕ) → i < n → f i ≡ false) → some n f ≡ false
@@ -57,29 +61,22 @@ module _ (delay : ℕ) (wires cores : List ℕ) where
   unfolding partners
   are-partners i j w d = and_both (eq-eqb _ _ w) (eq-eqb _ _ d)
 
-  -- what the code's test says of the k-th two
-  pub apart-asked : {v : Bool} (k : ℕ)
-      → (not (eqb (get_or wires (2 * k + 1) 0) (get_or cores (2 * k + 1) 0)) || not (eqb (get_or wires (2 * k) 0 + delay) (get_or cores (2 * k) 0))) ≡ v
-      → not (partners delay wires cores k k) ≡ v
-  unfolding partners word_at cycle_at
-  apart-asked k e = sym (not-two (eqb (get_or wires (2 * k + 1) 0) (get_or cores (2 * k + 1) 0)) (eqb (get_or wires (2 * k) 0 + delay) (get_or cores (2 * k) 0))) ∙ e
-
   -- ---- what is handed back
 
   -- an unsound recording gets the empty rest
-  pub alone-unsound : status_of (soundness delay wires cores) ≡ 18 → NoEvent ≡ alone delay wires cores
+  pub alone-unsound : (f : Fault) → soundness delay wires cores ≡ Err f → None ≡ alone delay wires cores
   unfolding alone
-  alone-unsound e = rw (unsound-one delay wires cores e) refl
+  alone-unsound f e = rw (unsound-one delay wires cores f e) refl
 
-  pub alone-sound : status_of (soundness delay wires cores) ≡ 0 → first_alone delay wires cores ≡ alone delay wires cores
+  pub alone-sound : soundness delay wires cores ≡ Ok tt → first_alone delay wires cores ≡ alone delay wires cores
   unfolding alone
   alone-sound e = let both = sound-both delay wires cores e in rw (both.0, both.1) refl
 
   -- a place stands within its recording
-  unfoldable pub Within : Alone → Type 0
-  Within NoEvent = Unit {0}
-  Within (Activate at) = at + 2 ≤ length wires
-  Within (Response at) = at + 2 ≤ length cores
+  unfoldable pub Within : Option Alone → Type 0
+  Within None = Unit {0}
+  Within (Some (Activate at)) = at + 2 ≤ length wires
+  Within (Some (Response at)) = at + 2 ≤ length cores
 
   first-within : Within (first_alone delay wires cores)
   unfolding first_alone Within taken_first
@@ -89,12 +86,12 @@ module _ (delay : ℕ) (wires cores : List ℕ) where
       ⊎_elim
       (λ (t : taken_first delay wires cores i j ≡ true).
       let small = ltb-true i (events_in wires) (and_left (ltb i (events_in wires)) (leb (events_in cores) j || leb (cycle_at wires i + delay) (cycle_at cores j)) t) in
-      subst Within (sym (ap (λ (b : Bool). cond b (Activate (2 * i)) (cond (ltb j (events_in cores)) (Response (2 * j)) NoEvent)) t)) (within wires i small))
+      subst Within (sym (ap (λ (b : Bool). cond b (Some (Activate (2 * i))) (cond (ltb j (events_in cores)) (Some (Response (2 * j))) None)) t)) (within wires i small))
       (λ (t : taken_first delay wires cores i j ≡ false).
-      subst Within (sym (ap (λ (b : Bool). cond b (Activate (2 * i)) (cond (ltb j (events_in cores)) (Response (2 * j)) NoEvent)) t))
+      subst Within (sym (ap (λ (b : Bool). cond b (Some (Activate (2 * i))) (cond (ltb j (events_in cores)) (Some (Response (2 * j))) None)) t))
       (⊎_elim
-      (λ (u : ltb j (events_in cores) ≡ true). subst Within (sym (ap (λ (b : Bool). cond b (Response (2 * j)) NoEvent) u)) (within cores j (ltb-true j (events_in cores) u)))
-      (λ (u : ltb j (events_in cores) ≡ false). subst Within (sym (ap (λ (b : Bool). cond b (Response (2 * j)) NoEvent) u)) tt)
+      (λ (u : ltb j (events_in cores) ≡ true). subst Within (sym (ap (λ (b : Bool). cond b (Some (Response (2 * j))) None) u)) (within cores j (ltb-true j (events_in cores) u)))
+      (λ (u : ltb j (events_in cores) ≡ false). subst Within (sym (ap (λ (b : Bool). cond b (Some (Response (2 * j))) None) u)) tt)
       (either (ltb j (events_in cores)))))
       (either (taken_first delay wires cores i j))
 
@@ -102,15 +99,15 @@ module _ (delay : ℕ) (wires cores : List ℕ) where
   unfolding alone Within
   alone-within =
       ⊎_elim
-      (λ (t : (wires_sound delay wires && cores_sound cores) ≡ true). subst Within (sym (ap (λ (b : Bool). cond b (first_alone delay wires cores) NoEvent) t)) first-within)
-      (λ (t : (wires_sound delay wires && cores_sound cores) ≡ false). subst Within (sym (ap (λ (b : Bool). cond b (first_alone delay wires cores) NoEvent) t)) tt)
+      (λ (t : (wires_sound delay wires && cores_sound cores) ≡ true). subst Within (sym (ap (λ (b : Bool). cond b (first_alone delay wires cores) None) t)) first-within)
+      (λ (t : (wires_sound delay wires && cores_sound cores) ≡ false). subst Within (sym (ap (λ (b : Bool). cond b (first_alone delay wires cores) None) t)) tt)
       (either (wires_sound delay wires && cores_sound cores))
 
-  pub activate-within : (at : ℕ) → alone delay wires cores ≡ Activate at → at + 2 ≤ length wires
+  pub activate-within : (at : ℕ) → alone delay wires cores ≡ Some (Activate at) → at + 2 ≤ length wires
   unfolding Within
   activate-within at e = subst Within e alone-within
 
-  pub response-within : (at : ℕ) → alone delay wires cores ≡ Response at → at + 2 ≤ length cores
+  pub response-within : (at : ℕ) → alone delay wires cores ≡ Some (Response at) → at + 2 ≤ length cores
   unfolding Within
   response-within at e = subst Within e alone-within
 
@@ -168,7 +165,7 @@ module _ (delay : ℕ) (wires cores : List ℕ) where
 
     -- ---- so it is what the definition finds
 
-    pub finds-activate : (k : ℕ) → InStep k → ActivateAt k → first_alone delay wires cores ≡ Activate (2 * k)
+    pub finds-activate : (k : ℕ) → InStep k → ActivateAt k → first_alone delay wires cores ≡ Some (Activate (2 * k))
     unfolding first_alone taken_first first_activate first_response activate_alone
     finds-activate k steps at =
         let alone : activate_alone delay wires cores k ≡ true = ap not (some-fails (partners delay wires cores k) (events_in cores) (λ j small. false-unless (partners delay wires cores k j) (lone-activate k steps at j small))) in
@@ -184,10 +181,10 @@ module _ (delay : ℕ) (wires cores : List ℕ) where
         (λ (past : events_in cores ≤ j). or_left (leb (events_in cores) j) (leb (cycle_at wires k + delay) (cycle_at cores j)) (le-leb (events_in cores) j past))
         (lt-or-ge j (events_in cores)))
         in
-        ap (λ (n : ℕ). cond (taken_first delay wires cores n j) (Activate (2 * n)) (cond (ltb j (events_in cores)) (Response (2 * j)) NoEvent)) i
-        ∙ ap (λ (b : Bool). cond b (Activate (2 * k)) (cond (ltb j (events_in cores)) (Response (2 * j)) NoEvent)) wins
+        ap (λ (n : ℕ). cond (taken_first delay wires cores n j) (Some (Activate (2 * n))) (cond (ltb j (events_in cores)) (Some (Response (2 * j))) None)) i
+        ∙ ap (λ (b : Bool). cond b (Some (Activate (2 * k))) (cond (ltb j (events_in cores)) (Some (Response (2 * j))) None)) wins
 
-    pub finds-response : (k : ℕ) → InStep k → ResponseAt k → first_alone delay wires cores ≡ Response (2 * k)
+    pub finds-response : (k : ℕ) → InStep k → ResponseAt k → first_alone delay wires cores ≡ Some (Response (2 * k))
     unfolding first_alone taken_first first_activate first_response response_alone
     finds-response k steps at =
         let alone : response_alone delay wires cores k ≡ true = ap not (some-fails (λ i. partners delay wires cores i k) (events_in wires) (λ i small. false-unless (partners delay wires cores i k) (lone-response k steps at i small))) in
@@ -202,11 +199,11 @@ module _ (delay : ℕ) (wires cores : List ℕ) where
         let up = not_before wires wires-rise k i late small in
         not-both (and_right (ltb i (events_in wires)) (leb (events_in cores) k || leb (cycle_at wires i + delay) (cycle_at cores k)) e) (ap₂ ◌||◌ (lt-leb (events_in cores) k at.0) (lt-leb (cycle_at wires i + delay) (cycle_at cores k) (omega (arith, here, up)))))
         in
-        ap (λ (n : ℕ). cond (taken_first delay wires cores i n) (Activate (2 * i)) (cond (ltb n (events_in cores)) (Response (2 * n)) NoEvent)) j
-        ∙ ap (λ (b : Bool). cond b (Activate (2 * i)) (cond (ltb k (events_in cores)) (Response (2 * k)) NoEvent)) loses
-        ∙ ap (λ (b : Bool). cond b (Response (2 * k)) NoEvent) (lt-ltb k (events_in cores) at.0)
+        ap (λ (n : ℕ). cond (taken_first delay wires cores i n) (Some (Activate (2 * i))) (cond (ltb n (events_in cores)) (Some (Response (2 * n))) None)) j
+        ∙ ap (λ (b : Bool). cond b (Some (Activate (2 * i))) (cond (ltb k (events_in cores)) (Some (Response (2 * k))) None)) loses
+        ∙ ap (λ (b : Bool). cond b (Some (Response (2 * k))) None) (lt-ltb k (events_in cores) at.0)
 
-    pub finds-none : (k : ℕ) → InStep k → EndAt k → first_alone delay wires cores ≡ NoEvent
+    pub finds-none : (k : ℕ) → InStep k → EndAt k → first_alone delay wires cores ≡ None
     unfolding first_alone taken_first first_activate first_response
     finds-none k steps at =
         let none-a : some (events_in wires) (activate_alone delay wires cores) ≡ false = some-fails (activate_alone delay wires cores) (events_in wires) (λ i h. step-activate k steps (omega (arith, at.1)) i (omega (arith, h, at.0))) in
@@ -278,22 +275,36 @@ module _ (delay : ℕ) (wires cores : List ℕ) where
       ))
       (lt-or-ge k n)
 
-  module _ (wires-rise : rises wires ≡ true) (cores-rise : rises cores ≡ true) where
-    pub odds : (n k : ℕ) → n ≤ events_in wires → n ≤ events_in cores → k ≡ first n apart → k < n
-        → cond (leb (cycle_at wires k + delay) (cycle_at cores k)) (Activate (2 * k)) (Response (2 * k)) ≡ first_alone delay wires cores
-    odds n k in-wires in-cores e h =
+  -- where both are sound: the one that is apart, or the first of the longer one's rest, or none
+  module _ (sound : soundness delay wires cores ≡ Ok tt) (n k : ℕ) (shorter : n ≡ min (events_in wires) (events_in cores)) (e : k ≡ first n apart) where
+    wires-up : rises wires ≡ true
+    wires-up = (wires-three delay wires (sound-both delay wires cores sound).0).1
+
+    cores-up : rises cores ≡ true
+    cores-up = (cores-two cores (sound-both delay wires cores sound).1).1
+
+    is-alone : first_alone delay wires cores ≡ alone delay wires cores
+    is-alone = alone-sound sound
+
+    pub odds : k < n → Some (cond (leb (cycle_at wires k + delay) (cycle_at cores k)) (Activate (2 * k)) (Response (2 * k))) ≡ alone delay wires cores
+    odds h =
+        let in-wires : n ≤ events_in wires = omega (arith, shorter) in
+        let in-cores : n ≤ events_in cores = omega (arith, shorter) in
         let steps-to = so_far n k in-wires in-cores e h in
         ⊎_elim
-        (λ (t : leb (cycle_at wires k + delay) (cycle_at cores k) ≡ true). rw t (sym (finds-activate wires-rise cores-rise k steps-to (apart-activate n k in-wires in-cores e h t))))
-        (λ (t : leb (cycle_at wires k + delay) (cycle_at cores k) ≡ false). rw t (sym (finds-response wires-rise cores-rise k steps-to (apart-response n k in-wires in-cores e h t))))
+        (λ (t : leb (cycle_at wires k + delay) (cycle_at cores k) ≡ true). rw t (sym (finds-activate wires-up cores-up k steps-to (apart-activate n k in-wires in-cores e h t)) ∙ is-alone))
+        (λ (t : leb (cycle_at wires k + delay) (cycle_at cores k) ≡ false). rw t (sym (finds-response wires-up cores-up k steps-to (apart-response n k in-wires in-cores e h t)) ∙ is-alone))
         (either (leb (cycle_at wires k + delay) (cycle_at cores k)))
 
-    module _ (n k : ℕ) (shorter : n ≡ min (events_in wires) (events_in cores)) (e : k ≡ first n apart) (h : n ≤ k) where
-      pub wires-longer : n < events_in wires → Activate (2 * n) ≡ first_alone delay wires cores
-      wires-longer l = sym (finds-activate wires-rise cores-rise n (all-steps n k e h) (longer-activate n shorter l))
+    module _ (h : n ≤ k) where
+      pub wires_longer : n < events_in wires → Some (Activate (2 * n)) ≡ alone delay wires cores
+      wires_longer l = sym (finds-activate wires-up cores-up n (all-steps n k e h) (longer-activate n shorter l)) ∙ is-alone
 
-      pub cores-longer : events_in wires ≤ n → n < events_in cores → Response (2 * n) ≡ first_alone delay wires cores
-      cores-longer s l = sym (finds-response wires-rise cores-rise n (all-steps n k e h) (longer-response n shorter s l))
+      pub cores_longer : events_in wires ≤ n → n < events_in cores → Some (Response (2 * n)) ≡ alone delay wires cores
+      cores_longer s l = sym (finds-response wires-up cores-up n (all-steps n k e h) (longer-response n shorter s l)) ∙ is-alone
 
-      pub none_longer : events_in wires ≤ n → events_in cores ≤ n → NoEvent ≡ first_alone delay wires cores
-      none_longer s t = sym (finds-none wires-rise cores-rise n (all-steps n k e h) (both_end n shorter s t))
+      pub none_longer : events_in wires ≤ n → events_in cores ≤ n → None ≡ alone delay wires cores
+      none_longer s t = sym (finds-none wires-up cores-up n (all-steps n k e h) (both_end n shorter s t)) ∙ is-alone
+
+-- what `unmatched` goes by
+pub ruleset rest = (rest-is, activate-within, response-within)

@@ -1,19 +1,24 @@
 -- Laws of recordings: what it says that one is sound, and that an event of one is found where the code looks for it.
 -- Assumes nothing.
-use mathlib.Core.Path.{◌≡◌, refl, sym, ap, ap₂, ◌∙◌, subst}
+use mathlib.Core.Path.{◌≡◌, refl, sym, ap, subst}
 use mathlib.Core.Logic.{⊎_elim}
-use mathlib.Core.Bool.{Bool, true, false, not, ◌&&◌, ◌||◌}
+use mathlib.Core.Bool.{true, false, ◌&&◌}
 use mathlib.Core.List.{List}
-use Prim.Native.Nat.{ℕ, suc, ◌+◌, ◌-◌, ◌*◌, ◌%◌, ◌≤◌, ◌<◌}
+use Prim.Native.Nat.{ℕ, suc, ◌+◌, ◌-◌, ◌*◌, ◌≤◌, ◌<◌}
 use native.Mathlib.Nat.{zero-add}
 use native.Mathlib.Omega.{arith}
-use borrow.Author.Tests.{leb-true, ltb-true, eqb-false}
-use lib.Dec.{eqb, leb, ltb}
+use borrow.Author.Tests.{leb-true, ltb-true}
+use lib.Dec.{leb, ltb}
 use lib.ListN.{length, get_or}
 use Rattle.basics.proofs.Truth.{either, and_left, and_right, and-three}
 use Rattle.basics.proofs.Below.{every-at}
-use Rattle.recordings.specs.Recording.{events_in, cycle_at, in_pairs, rises, due_fits, wires_sound, cores_sound, soundness, status_of}
-use Rattle.recordings.specs.declared.Soundness.TheVariants.{Sound, WiresUnsound, CoresUnsound}
+use Rattle.recordings.specs.Recording.{events_in, cycle_at, in_pairs, rises, due_fits, wires_sound, cores_sound, soundness}
+use Rattle.std.specs.Result.{result_ok}
+use Rattle.std.specs.declared.option.Option.TheVariants.{None, Some}
+use Rattle.std.specs.declared.result.Result.{Result}
+use Rattle.std.specs.declared.result.Result.TheVariants.{Ok, Err}
+use Rattle.recordings.specs.declared.Fault.{Fault}
+use Rattle.recordings.specs.declared.Fault.TheVariants.{Wires, Cores}
 
 module _ (r : List ℕ) where
   -- the next event's cycle
@@ -50,9 +55,9 @@ unfolding due_fits
 due-small delay r fits i h = leb-true _ _ (every-at (λ k. leb (cycle_at r k + delay) 4294967295) (events_in r) fits i h)
 
 -- and so where the code looks for it
-pub due-read : (delay : ℕ) (r : List ℕ) → due_fits delay r ≡ true → (i : ℕ) → 2 * i + 2 ≤ length r → get_or r (2 * i) 0 + delay < 4294967296
+pub due_reads : (delay : ℕ) (r : List ℕ) → due_fits delay r ≡ true → (i : ℕ) → 2 * i + 2 ≤ length r → get_or r (2 * i) 0 + delay < 4294967296
 unfolding cycle_at events_in
-due-read delay r fits i h = omega (arith, due-small delay r fits i (omega (arith, h)))
+due_reads delay r fits i h = omega (arith, due-small delay r fits i (omega (arith, h)))
 
 -- the parts of soundness
 pub wires-three : (delay : ℕ) (r : List ℕ) → wires_sound delay r ≡ true → (in_pairs r ≡ true) × (rises r ≡ true) × (due_fits delay r ≡ true)
@@ -65,53 +70,41 @@ cores-two r e = (and_left (in_pairs r) (rises r) e, and_right (in_pairs r) (rise
 
 -- ---- the question
 
-not_three : (a b c : Bool) → (not a || not b || not c) ≡ not (a && b && c)
-not_three true true c = refl
-not_three true false c = refl
-not_three false b c = refl
+-- what `ok` tells of an answer
+pub ok-some : {T E : Type 0} (r : Result T E) (x : T) → result_ok r ≡ Some x → r ≡ Ok x
+ok-some (Ok y) x e = cc
+ok-some (Err f) x e = cc
 
-pub not-two : (a b : Bool) → (not a || not b) ≡ not (a && b)
-not-two true b = refl
-not-two false b = refl
-
--- what the code's tests say of a recording, where x and y are its answers
-pub wires-asked : {x y v : Bool} (delay : ℕ) (r : List ℕ) → x ≡ rises r → y ≡ due_fits delay r → (not (eqb (length r % 2) 0) || not x || not y) ≡ v → not (wires_sound delay r) ≡ v
-unfolding wires_sound in_pairs
-wires-asked delay r p q e =
-    sym (not_three (eqb (length r % 2) 0) (rises r) (due_fits delay r)) ∙ ap₂ (λ (x y : Bool). not (eqb (length r % 2) 0) || not x || not y) (sym p) (sym q) ∙ e
-
-pub cores-asked : {x v : Bool} (r : List ℕ) → x ≡ rises r → (not (eqb (length r % 2) 0) || not x) ≡ v → not (cores_sound r) ≡ v
-unfolding cores_sound in_pairs
-cores-asked r p e = sym (not-two (eqb (length r % 2) 0) (rises r)) ∙ ap (λ (x : Bool). not (eqb (length r % 2) 0) || not x) (sym p) ∙ e
+pub ok-none : {T E : Type 0} (r : Result T E) → result_ok r ≡ None → (f : E) × (r ≡ Err f)
+ok-none (Ok y) e = absurd (let h : ⊥ = cc in h)
+ok-none (Err f) e = (f, refl)
 
 module _ (delay : ℕ) (wires cores : List ℕ) where
-  pub wires-unsound : wires_sound delay wires ≡ false → soundness delay wires cores ≡ WiresUnsound
+  pub wires-unsound : wires_sound delay wires ≡ false → soundness delay wires cores ≡ Err Wires
   unfolding soundness
   wires-unsound e = rw e refl
 
-  pub cores-unsound : wires_sound delay wires ≡ true → cores_sound cores ≡ false → soundness delay wires cores ≡ CoresUnsound
+  pub cores-unsound : wires_sound delay wires ≡ true → cores_sound cores ≡ false → soundness delay wires cores ≡ Err Cores
   unfolding soundness
   cores-unsound e f = rw (e, f) refl
 
-  pub both-sound : wires_sound delay wires ≡ true → cores_sound cores ≡ true → soundness delay wires cores ≡ Sound
+  pub both-sound : wires_sound delay wires ≡ true → cores_sound cores ≡ true → soundness delay wires cores ≡ Ok tt
   unfolding soundness
   both-sound e f = rw (e, f) refl
 
-  -- and back: 0 says that both are sound, and 18 that one is not
-  pub sound-both : status_of (soundness delay wires cores) ≡ 0 → (wires_sound delay wires ≡ true) × (cores_sound cores ≡ true)
-  unfolding status_of
+  -- and back: `Ok` says that both are sound, and an `Err` that one is not
+  pub sound-both : soundness delay wires cores ≡ Ok tt → (wires_sound delay wires ≡ true) × (cores_sound cores ≡ true)
   sound-both e =
       ⊎_elim
       (λ (w : wires_sound delay wires ≡ true).
-      ⊎_elim (λ (c : cores_sound cores ≡ true). (w, c)) (λ (c : cores_sound cores ≡ false). absurd (eqb-false 18 0 refl (sym (ap status_of (cores-unsound w c)) ∙ e))) (either (cores_sound cores)))
-      (λ (w : wires_sound delay wires ≡ false). absurd (eqb-false 18 0 refl (sym (ap status_of (wires-unsound w)) ∙ e)))
+      ⊎_elim (λ (c : cores_sound cores ≡ true). (w, c)) (λ (c : cores_sound cores ≡ false). let x = cores-unsound w c in cc) (either (cores_sound cores)))
+      (λ (w : wires_sound delay wires ≡ false). let x = wires-unsound w in cc)
       (either (wires_sound delay wires))
 
-  pub unsound-one : status_of (soundness delay wires cores) ≡ 18 → (wires_sound delay wires && cores_sound cores) ≡ false
-  unfolding status_of
-  unsound-one e =
+  pub unsound-one : (f : Fault) → soundness delay wires cores ≡ Err f → (wires_sound delay wires && cores_sound cores) ≡ false
+  unsound-one f e =
       ⊎_elim
       (λ (w : wires_sound delay wires ≡ true).
-      ⊎_elim (λ (c : cores_sound cores ≡ true). absurd (eqb-false 0 18 refl (sym (ap status_of (both-sound w c)) ∙ e))) (λ (c : cores_sound cores ≡ false). rw (w, c) refl) (either (cores_sound cores)))
+      ⊎_elim (λ (c : cores_sound cores ≡ true). let x = both-sound w c in cc) (λ (c : cores_sound cores ≡ false). rw (w, c) refl) (either (cores_sound cores)))
       (λ (w : wires_sound delay wires ≡ false). rw w refl)
       (either (wires_sound delay wires))

@@ -2,7 +2,10 @@
 -- which nothing happens and an offer that is taken by the same four numbers.
 use Rattle.std.specs.Prelude.{Bool, cond, ◌&&◌, List, [], ◌∷◌, ◌++◌, ℕ, ◌+◌, ◌*◌, ◌/◌, ◌%◌, eqb, leb, length, get_or, drop}
 use Rattle.requests.specs.Sizes.{last_cycle}
-use Rattle.recordings.specs.declared.Recorded.{Recorded}
+use Rattle.std.specs.declared.result.Result.{Result}
+use Rattle.std.specs.declared.result.Result.TheVariants.{Ok, Err}
+use Rattle.refusals.specs.declared.Refusal.{Refusal}
+use Rattle.refusals.specs.Refusal.{number}
 
 -- ---- one line
 
@@ -39,6 +42,16 @@ recording_of activates t [] log = []
 recording_of activates t (w ∷ ws) log = event_at t (word_shown activates w log 0) ++ recording_of activates (t + tick_in w log 0) ws (drop 4 log)
 
 -- ---- the call
+
+-- the two numbers of an answer: the status, and how many numbers were written
+pub record Recorded : Type 0 where
+  pub status : ℕ
+  pub count : ℕ
+
+-- 0 and the count, or the number of what refuses the call and a count of 0
+unfoldable pub counted : Result ℕ Refusal → Recorded
+counted (Ok n) = record { status = 0; count = n }
+counted (Err r) = record { status = number r; count = 0 }
 
 -- 17: "log .. not 4 times the trace"; 12: "a tick after 16,777,215 ticks"; 16: too little room. 0 where none refuses it.
 unfoldable pub record_status : Bool → List ℕ → List ℕ → ℕ → List ℕ → ℕ

@@ -1,9 +1,9 @@
 -- W-204's check: which event is the first without a partner, and the rest that begins at it.
-use Rattle.std.specs.Prelude.{Bool, cond, not, ◌&&◌, ◌||◌, List, ℕ, ◌+◌, ◌*◌, eqb, leb, ltb, length, drop}
+use Rattle.std.specs.Prelude.{Option, Some, None, Bool, cond, not, ◌&&◌, ◌||◌, List, ℕ, ◌+◌, ◌*◌, eqb, leb, ltb, length, drop}
 use Rattle.basics.specs.Below.{some, first}
 use Rattle.recordings.specs.Recording.{events_in, cycle_at, word_at, wires_sound, cores_sound}
 use Rattle.recordings.specs.declared.Alone.{Alone}
-use Rattle.recordings.specs.declared.Alone.TheVariants.{NoEvent, Activate, Response}
+use Rattle.recordings.specs.declared.Alone.TheVariants.{Activate, Response}
 
 -- ---- partners
 
@@ -33,28 +33,28 @@ unfoldable pub taken_first : ℕ → List ℕ → List ℕ → ℕ → ℕ → B
 taken_first delay wires cores i j = ltb i (events_in wires) && (leb (events_in cores) j || leb (cycle_at wires i + delay) (cycle_at cores j))
 
 -- "whichever recording holds the first event without a partner, beginning at it": the event's place in its recording
-unfoldable pub first_alone : ℕ → List ℕ → List ℕ → Alone
+unfoldable pub first_alone : ℕ → List ℕ → List ℕ → Option Alone
 first_alone delay wires cores =
     let i = first_activate delay wires cores in
     let j = first_response delay wires cores in
-    cond (taken_first delay wires cores i j) (Activate (2 * i)) (cond (ltb j (events_in cores)) (Response (2 * j)) NoEvent)
+    cond (taken_first delay wires cores i j) (Some (Activate (2 * i))) (cond (ltb j (events_in cores)) (Some (Response (2 * j))) None)
 
 -- an unsound recording "gets that empty rest"
-unfoldable pub alone : ℕ → List ℕ → List ℕ → Alone
-alone delay wires cores = cond (wires_sound delay wires && cores_sound cores) (first_alone delay wires cores) NoEvent
+unfoldable pub alone : ℕ → List ℕ → List ℕ → Option Alone
+alone delay wires cores = cond (wires_sound delay wires && cores_sound cores) (first_alone delay wires cores) None
 
 -- ---- "The check hands back the rest of whichever recording holds the first event without a partner, beginning at it; if all have partners, an empty rest of the wires'."
 
-unfoldable pub rest_of : List ℕ → List ℕ → Alone → List ℕ
-rest_of wires cores NoEvent = drop (length wires) wires
-rest_of wires cores (Activate at) = drop at wires
-rest_of wires cores (Response at) = drop at cores
+unfoldable pub rest_of : List ℕ → List ℕ → Option Alone → List ℕ
+rest_of wires cores None = drop (length wires) wires
+rest_of wires cores (Some (Activate at)) = drop at wires
+rest_of wires cores (Some (Response at)) = drop at cores
 
 unfoldable pub unmatched : ℕ → List ℕ → List ℕ → List ℕ
 unmatched delay wires cores = rest_of wires cores (alone delay wires cores)
 
 -- the place of the rest in memory, of the places at which the two lent slices begin, so that it is a part of "whichever recording": a number has 4 bytes, and the empty rest stands at the wires' end
-unfoldable pub rest_at : ℕ × ℕ → ℕ × ℕ → List ℕ → Alone → ℕ × ℕ
-rest_at at_wires at_cores wires NoEvent = (at_wires.0, length wires * 4 + at_wires.1)
-rest_at at_wires at_cores wires (Activate at) = (at_wires.0, at * 4 + at_wires.1)
-rest_at at_wires at_cores wires (Response at) = (at_cores.0, at * 4 + at_cores.1)
+unfoldable pub rest_at : ℕ × ℕ → ℕ × ℕ → List ℕ → Option Alone → ℕ × ℕ
+rest_at at_wires at_cores wires None = (at_wires.0, length wires * 4 + at_wires.1)
+rest_at at_wires at_cores wires (Some (Activate at)) = (at_wires.0, at * 4 + at_wires.1)
+rest_at at_wires at_cores wires (Some (Response at)) = (at_cores.0, at * 4 + at_cores.1)

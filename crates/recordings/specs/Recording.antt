@@ -1,8 +1,10 @@
 -- W-204's recordings: "Labs record activates on the command wires and answers at the cores, each as pairs of cycle and word". A recording is a list of numbers: cycle, word, cycle, word.
 use Rattle.std.specs.Prelude.{Bool, cond, ◌&&◌, List, ℕ, suc, ◌+◌, ◌-◌, ◌*◌, ◌/◌, ◌%◌, eqb, leb, ltb, length, get_or}
 use Rattle.basics.specs.Below.{every}
-use Rattle.recordings.specs.declared.Soundness.{Soundness}
-use Rattle.recordings.specs.declared.Soundness.TheVariants.{Sound, WiresUnsound, CoresUnsound}
+use Rattle.std.specs.declared.result.Result.{Result}
+use Rattle.std.specs.declared.result.Result.TheVariants.{Ok, Err}
+use Rattle.recordings.specs.declared.Fault.{Fault}
+use Rattle.recordings.specs.declared.Fault.TheVariants.{Wires, Cores}
 
 -- ---- the events of a recording
 
@@ -38,11 +40,10 @@ cores_sound cores = in_pairs cores && rises cores
 
 -- ---- the question: "18 for such a recording, with which one it is, the wires first; 0 where both are sound"
 
-unfoldable pub soundness : ℕ → List ℕ → List ℕ → Soundness
-soundness delay wires cores = cond (wires_sound delay wires) (cond (cores_sound cores) Sound CoresUnsound) WiresUnsound
+unfoldable pub soundness : ℕ → List ℕ → List ℕ → Result (Unit {0}) Fault
+soundness delay wires cores = cond (wires_sound delay wires) (cond (cores_sound cores) (Ok tt) (Err Cores)) (Err Wires)
 
 -- the number of an answer
-unfoldable pub status_of : Soundness → ℕ
-status_of Sound = 0
-status_of WiresUnsound = 18
-status_of CoresUnsound = 18
+unfoldable pub status_of : Result (Unit {0}) Fault → ℕ
+status_of (Ok _) = 0
+status_of (Err _) = 18

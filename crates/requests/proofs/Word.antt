@@ -36,24 +36,24 @@ pub bank-told : (r : Request) → 4 ≤ r.rank → bank_in_word r ≡ 15
 unfolding bank_in_word
 bank-told r large = rw (lt-leb r.rank 3 large)
 
-pub bank-fits : (r : Request) → bank_in_word r ≤ 15
-bank-fits r = ⊎_elim (λ small. omega (arith, bank-held r small)) (λ large. omega (arith, bank-told r large)) (lt-or-ge r.rank 4)
+pub bank_fits : (r : Request) → bank_in_word r ≤ 15
+bank_fits r = ⊎_elim (λ small. omega (arith, bank-held r small)) (λ large. omega (arith, bank-told r large)) (lt-or-ge r.rank 4)
 
 pub class_back : (r : Request) → class_of (word_of r) ≡ min r.class 31
 unfolding class_of word_of
-class_back r = omega (arith, bank-fits r)
+class_back r = omega (arith, bank_fits r)
 
 pub rank-back : (r : Request) → rank_of (word_of r) ≡ min r.rank 3
 unfolding rank_of word_of
-rank-back r = omega (arith, bank-fits r)
+rank-back r = omega (arith, bank_fits r)
 
 pub kind-back : (r : Request) → kind_of (word_of r) ≡ min r.kind 3
 unfolding kind_of word_of
-kind-back r = omega (arith, bank-fits r)
+kind-back r = omega (arith, bank_fits r)
 
 pub bank-back : (r : Request) → bank_of (word_of r) ≡ bank_in_word r
 unfolding bank_of word_of
-bank-back r = omega (arith, bank-fits r)
+bank-back r = omega (arith, bank_fits r)
 
 pub tag_back : (r : Request) → tag_of (word_of r) ≡ min r.tag 65535
 unfolding tag_of word_of
@@ -61,12 +61,15 @@ tag_back r = omega arith
 
 pub is-offer : (r : Request) → is_offer (word_of r) ≡ true
 unfolding is_offer word_of
-is-offer r = let top : word_of r / 536870912 ≡ 4 = omega (arith, bank-fits r) in eq-eqb (word_of r / 536870912) 4 top
+is-offer r = let top : word_of r / 536870912 ≡ 4 = omega (arith, bank_fits r) in eq-eqb (word_of r / 536870912) 4 top
 
 -- an offer's word has bits 30 and 29 clear, so setting bit 30 does not wrap
 pub offer-fits : (w : ℕ) → is_offer w ≡ true → w + 1073741824 < 4294967296
 unfolding is_offer
 offer-fits w e = omega (arith, eqb-true (w / 536870912) 4 e)
+
+pub word_fits : (r : Request) → word_of r + 1073741824 < 4294967296
+word_fits r = offer-fits (word_of r) (is-offer r)
 
 -- the fields of a word, put together from the lowest
 together : (w high16 high20 high22 high24 class rank kind bank tag : ℕ) → w ≡ high16 * 65536 + tag → high16 ≡ high20 * 16 + bank → high20 ≡ high22 * 4 + kind → high22 ≡ high24 * 4 + rank → high24 ≡ 128 + class → 2147483648 + class * 16777216 + rank * 4194304 + kind * 1048576 + bank * 65536 + tag ≡ w

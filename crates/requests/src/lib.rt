@@ -16,6 +16,7 @@ pub const BANK_PLACES: usize = 32;
 pub const LAST_CYCLE: u32 = 16777215;
 
 // A request, as an offer makes it.
+// Kept: kind, bank and rank are numbers and no enums, since an offer with a kind above 1, a bank above 7 or a rank that is not there can be made: 10 refuses it (`bank_kind_rank_fit`, edits kind_2_fits, bank_8_fits).
 #[derive(Clone, Copy)]
 pub struct Request {
     pub class: u32,
@@ -28,6 +29,7 @@ pub struct Request {
 }
 
 // What the command wires carried in a tick.
+// Kept: document 01 names this form, an enum of the wires' states whose cases carry the request.
 #[derive(Clone, Copy)]
 pub enum Wires {
     Nothing,
@@ -37,6 +39,7 @@ pub enum Wires {
 }
 
 // What a tick shows.
+// Kept: the response and the turn are the log's own numbers, as document 01 has them with 0 for none, and as `calls::tick` reads them from the log.
 #[derive(Clone, Copy)]
 pub struct Record {
     pub wires: Wires,
@@ -47,6 +50,7 @@ pub struct Record {
 }
 
 // What a trace word is.
+// Kept: no Option or Result of a request: a tick and a malformed word are two answers apart, and neither is an error here, but 14 of the run.
 #[derive(Clone, Copy)]
 pub enum Call {
     Tick,
@@ -56,6 +60,8 @@ pub enum Call {
 }
 
 // A trace word told apart: 0 is a tick; a word that has the form of an offer is one, whatever its class, bank, kind and rank.
+// Kept: a function and no `From`: it is the definition of the same name, which the crates above cite.
+#[tactic(auto, unfolding(crate::specs::Trace::call_of))]
 pub fn call_of(word: u32) -> Call
     ensures { result ≡ call_of word }
 {

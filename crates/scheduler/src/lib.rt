@@ -1,20 +1,20 @@
 // The scheduler: the calls of a trace one after the other, in place. The traversal gives each turn an owner, and each tick drives the command wires and hands responses
-// back. The crates `calls` and `log` hand its run on, as single calls and as document 01's run.
+// back. The crates `calls` and `logs` hand its run on, as single calls and as document 01's run.
+// Kept: policy and moment, and policy, moment and state, are references side by side and no struct of them: `Known` and `Working` say in one clause what they rest on together, and a struct would be made
+// for each call and taken apart in each clause.
+// Kept: that a class is below 16 is asked of each function and is no type: a state stores its owner as any number, since 13 refuses one above (edit an_owner_that_is_no_class), and `masks::nth` answers 16.
 
 #![tactic(auto)]
 
-ghost use Rattle.std.specs.Prelude.{◌≡◌, true, ◌++◌, ◌+◌, ◌*◌, ◌≤◌, length, drop};
-ghost use Rattle.state.specs.Range.{in_range};
+ghost use Rattle.std.specs.Prelude.{◌≡◌, ◌++◌, ◌+◌, ◌*◌, ◌≤◌, length, drop};
 ghost use Rattle.rules.specs.Calls.{answer_to, state_after, log_of, line_written};
 ghost use Rattle.rules.specs.Run.{run, log_after};
-ghost use Rattle.scheduler.specs.InPlace.{with_until, state_of, answered_with, answer_of, NoneYet, Working, Continues};
+ghost use Rattle.scheduler.specs.InPlace.{answered_with, answer_of, Working};
 
-use flight::{Banks, Pending};
 use policy::Policy;
-use queues::Slots;
 use requests::{Call, LAST_CYCLE};
 use state::{Ran, State};
-use ticking::{Called, Moment};
+use ticking::{Line, Moment};
 
 mod lookahead;
 mod ticking;
@@ -22,22 +22,23 @@ mod traversal;
 mod turning;
 
 // Writes the four log numbers of a call.
-fn write(log: &mut [u32], at: usize, status: u32, command: u32, response: u32, turn: u32)
+// Kept: four stores, which are the four of the clause's `line_written`, and no copy of an array that would be made for it.
+fn write(log: &mut [u32], at: usize, line: Line)
     requires { at + 4 ≤ length log.old }
-    ensures { log.new ≡ line_written log.old at status command response turn }
+    ensures { log.new ≡ line_written log.old at line.status line.command line.response line.turn }
 {
-    log[at] = status;
-    log[at + 1] = command;
-    log[at + 2] = response;
-    log[at + 3] = turn;
+    log[at] = line.status;
+    log[at + 1] = line.command;
+    log[at + 2] = line.response;
+    log[at + 3] = line.turn;
 }
 
-// What a call that shows nothing left: its status, and the numbers as they were.
-fn answered(moment: Moment, status: u32) -> Called
-    ensures { result ≡ answered_with moment status }
+// The line of a call that shows nothing: its status.
+// Kept: a number and no `Refusal`, here and in the answers of `run`: it is what the log's first column shows, as the definitions `answer_to` and `run` give it.
+fn answered(status: u32) -> Line
+    ensures { result ≡ answered_with status }
 {
-    Called {
-        moment,
+    Line {
         status,
         command: 0,
         response: 0,
@@ -45,197 +46,38 @@ fn answered(moment: Moment, status: u32) -> Called
     }
 }
 
-// The numbers after an offer, taken or not, of whatever class: nothing is known of when one of the owner's requests may go.
-fn nothing_known(m: Moment) -> Moment
-    ensures { result ≡ with_until m 0 }
-{
-    let mut after = m;
-    after.until = 0;
-    after
-}
-
 // The call of a trace word, in place, on a state in range.
-fn call_at(
-    p: Policy,
-    m: Moment,
-    word: u32,
-    rows: &[u16; 16],
-    covers: &[u16; 16],
-    caps: &[u32; 16],
-    slots: &mut Slots,
-    heads: &mut [usize; 16],
-    lengths: &mut [usize; 16],
-    passed: &mut [usize; 16],
-    left: &mut [u32; 16],
-    pointers: &mut [usize; 16],
-    columns: &mut Pending,
-    responses: &mut Pending,
-    banks: &mut Banks,
-) -> Called
-    requires { let s = state_of m slots.old heads.old lengths.old passed.old left.old pointers.old
-        columns.old responses.old banks.old in
-        Working p s m rows.now covers.now caps.now }
-    ensures answered { let s = state_of m slots.old heads.old lengths.old passed.old left.old pointers.old
-        columns.old responses.old banks.old in
-        answer_of result (state_of result.moment slots.new heads.new lengths.new
-        passed.new left.new pointers.new columns.new responses.new banks.new) ≡ answer_to p s word }
-    ensures next { Continues p m result.moment }
-    ensures until { let s = state_of m slots.old heads.old lengths.old passed.old left.old pointers.old
-        columns.old responses.old banks.old in
-        NoneYet p (answer_to p s word).state result.moment }
+fn call_at(p: &Policy, m: &mut Moment, s: &mut State, word: u32) -> Line
+    requires { Working p.now s.old m.old }
+    ensures answered { answer_of result s.new ≡ answer_to p.now s.old word }
+    ensures working { Working p.now s.new m.new }
 {
-    let call = requests::call_of(word);
-    match call {
+    match requests::call_of(word) {
         Call::Tick => {
-            if LAST_CYCLE <= m.cycle {
-                return answered(m, 12);
+            if LAST_CYCLE <= s.cycle {
+                return answered(12);
             }
-            ticking::tick_in_place(
-                p, m, rows, covers, caps, slots, heads, lengths, passed, left, pointers, columns,
-                responses, banks,
-            )
+            ticking::tick_in_place(p, m, s)
         }
         Call::Offer(r) => {
-            let timing = p.timing;
-            let status = wires::offer(m.classes, timing.ranks, slots, heads, lengths, r, word);
-            answered(nothing_known(m), status)
+            // Nothing is known any more of when one of the owner's requests may go, whether the offer is taken or not, and of whatever class.
+            m.until = 0;
+            answered(wires::offer(s.classes, p.timing.ranks, &mut s.queues, r, word))
         }
-        Call::Malformed => answered(m, 14),
+        Call::Malformed => answered(14),
     }
 }
 
-// The calls of a trace one after the other, in place, on a state in range. (The numbers are locals of their own from call to call: a struct would be copied with the gaps
-// between its fields.)
-fn calls(
-    p: Policy,
-    start: Moment,
-    rows: &[u16; 16],
-    covers: &[u16; 16],
-    caps: &[u32; 16],
-    slots: &mut Slots,
-    heads: &mut [usize; 16],
-    lengths: &mut [usize; 16],
-    passed: &mut [usize; 16],
-    left: &mut [u32; 16],
-    pointers: &mut [usize; 16],
-    columns: &mut Pending,
-    responses: &mut Pending,
-    banks: &mut Banks,
-    trace: &[u32],
-    log: &mut [u32],
-) -> Moment
-    requires { let s = state_of start slots.old heads.old lengths.old passed.old left.old pointers.old
-        columns.old responses.old banks.old in
-        Working p s start rows.now covers.now caps.now × (4 * length trace.now ≤ length log.old) }
-    ensures state { let s = state_of start slots.old heads.old lengths.old passed.old left.old pointers.old
-        columns.old responses.old banks.old in
-        state_of result slots.new heads.new lengths.new passed.new left.new
-        pointers.new columns.new responses.new banks.new ≡ state_after p s trace.now }
-    ensures logged { let s = state_of start slots.old heads.old lengths.old passed.old left.old pointers.old
-        columns.old responses.old banks.old in
-        log.new
-        ≡ log_of p s trace.now ++ drop (4 * length trace.now) log.old }
+// The calls of a trace one after the other, in place, on a state in range.
+fn calls(p: &Policy, m: &mut Moment, s: &mut State, trace: &[u32], log: &mut [u32])
+    requires { Working p.now s.old m.old × (4 * length trace.now ≤ length log.old) }
+    ensures state { s.new ≡ state_after p.now s.old trace.now }
+    ensures logged { log.new ≡ log_of p.now s.old trace.now ++ drop (4 * length trace.now) log.old }
 {
-    let bottom = start.bottom;
-    let free = start.free;
-    let classes = start.classes;
-    let mut cycle = start.cycle;
-    let mut offset = start.offset;
-    let mut owner = start.owner;
-    let mut elided = start.elided;
-    let mut last = start.last;
-    let mut until = start.until;
-    let mut i = 0;
-    while i < trace.len() {
-        let m = Moment {
-            cycle,
-            offset,
-            bottom,
-            free,
-            classes,
-            owner,
-            elided,
-            last,
-            until,
-        };
-        let called = call_at(
-            p, m, trace[i], rows, covers, caps, slots, heads, lengths, passed, left, pointers,
-            columns, responses, banks,
-        );
-        write(
-            log,
-            4 * i,
-            called.status,
-            called.command,
-            called.response,
-            called.turn,
-        );
-        let after = called.moment;
-        cycle = after.cycle;
-        offset = after.offset;
-        owner = after.owner;
-        elided = after.elided;
-        last = after.last;
-        until = after.until;
-        i += 1;
+    for i in 0..trace.len() {
+        let line = call_at(p, m, s, trace[i]);
+        write(log, 4 * i, line);
     }
-    Moment {
-        cycle,
-        offset,
-        bottom,
-        free,
-        classes,
-        owner,
-        elided,
-        last,
-        until,
-    }
-}
-
-// The calls of a whole trace, on a state in range: its arrays and numbers are moved into locals once, worked on in place, and put together at the end.
-fn advance(s: State, p: Policy, trace: &[u32], log: &mut [u32]) -> State
-    requires { (in_range p s ≡ true) × (4 * length trace.now ≤ length log.old) }
-    ensures state { result ≡ state_after p s trace.now }
-    ensures logged { log.new
-        ≡ log_of p s trace.now ++ drop (4 * length trace.now) log.old }
-{
-    let rows = p.rows;
-    let covers = p.covers;
-    let caps = p.caps;
-    let queues = s.queues;
-    let mut slots = queues.slots;
-    let mut heads = queues.heads;
-    let mut lengths = queues.lengths;
-    let mut passed = queues.passed;
-    let turns = s.turns;
-    let mut left = turns.left;
-    let mut pointers = turns.pointers;
-    let flight = s.flight;
-    let mut columns = flight.columns;
-    let mut responses = flight.responses;
-    let mut banks = flight.banks;
-    let start = ticking::moment_of(p, s);
-    let end = calls(
-        p,
-        start,
-        &rows,
-        &covers,
-        &caps,
-        &mut slots,
-        &mut heads,
-        &mut lengths,
-        &mut passed,
-        &mut left,
-        &mut pointers,
-        &mut columns,
-        &mut responses,
-        &mut banks,
-        trace,
-        log,
-    );
-    ticking::state_of(
-        end, slots, heads, lengths, passed, left, pointers, columns, responses, banks,
-    )
 }
 
 // A run over a trace: 13, 15; else each trace number's call in order, whose four numbers go into the log. Numbers past them stay, and a refused run writes nothing.
@@ -255,6 +97,8 @@ pub fn run(p: Policy, s: State, trace: &[u32], log: &mut [u32]) -> Ran
             state: s,
         };
     }
-    let state = advance(s, p, trace, log);
+    let mut state = s;
+    let mut m = ticking::moment_of(&p, s.cycle);
+    calls(&p, &mut m, &mut state, trace, log);
     Ran { status: 0, state }
 }

@@ -4,28 +4,30 @@ ghost use Rattle.std.specs.Prelude.{◌≡◌, ◌<◌};
 ghost use Rattle.rules.specs.Lookahead.{looking_ahead, reaches};
 ghost use Rattle.rules.specs.Climb.{Climbs};
 
-// Whether the lookahead, from a class on, reaches the owner. The pointers stay as they are.
+use policy::Policy;
+
+// Whether the lookahead, from a class on, reaches the owner, where so many turns are left. The pointers stay as they are.
 pub(crate) fn reaches(
-    rows: &[u16; 16],
-    covers: &[u16; 16],
+    p: &Policy,
     left: &[u32; 16],
     pointers: &[usize; 16],
     owner: usize,
     from: usize,
 ) -> bool
-    requires { Climbs rows.now covers.now × (from < 16) }
+    requires { Climbs p.now.rows p.now.covers × (from < 16) }
     ensures { result
-        ≡ reaches 16 (looking_ahead rows.now covers.now left.now pointers.now) owner from }
+        ≡ reaches 16 (looking_ahead p.now.rows p.now.covers left.now pointers.now) owner from }
 {
     let mut class = from;
+    // Kept: a `while`, since what it goes over is no range: it goes from class to class.
     while class != owner {
-        let flows = masks::has(rows[class], owner);
+        let flows = masks::has(p.rows[class], owner);
         let spent = left[class] == 0;
         if !(flows & spent) {
             return false;
         }
-        let pointer = decisions::moved(covers[class], pointers[class]);
-        class = masks::nth(covers[class], pointer);
+        let pointer = decisions::moved(p.covers[class], pointers[class]);
+        class = masks::nth(p.covers[class], pointer);
     }
     true
 }

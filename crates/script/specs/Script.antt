@@ -1,9 +1,10 @@
 -- The script of a test program, said of its bytes: where its lines start, and which numbers they hold. (No paper of the project speaks of it; crates/cases_calls/stdin has the form in words.)
-use Rattle.std.specs.Prelude.{Bool, cond, not, ◌&&◌, ◌||◌, List, ℕ, zero, suc, ◌+◌, ◌*◌, ◌-◌, ◌%◌, ltb, leb, eqb, length, get_or, set, replicate}
+use Rattle.std.specs.Prelude.{Bool, cond, not, ◌&&◌, Option, None, Some, List, ℕ, zero, suc, ◌+◌, ◌*◌, ◌-◌, ◌%◌, ltb, leb, eqb, length, get_or, set, replicate}
 use Rattle.basics.specs.Below.{first}
 use Rattle.script.specs.declared.Line.{Line}
 use Rattle.script.specs.declared.List.{List as Numbers}
 use Rattle.script.specs.declared.Token.{Token}
+use Rattle.script.specs.declared.Token.TheVariants.{Between, Word, Number}
 
 -- ---- lines
 
@@ -45,6 +46,14 @@ next_line text l =
       log = cond (eqb letter 76) numbers l.log;
     }
 
+-- the line before the first
+unfoldable pub no_line : Line
+no_line = record { letter = 0; name = 0; numbers = 0; next = 0; file = 0; state = 0; trace = 0; log = 0 }
+
+-- the line after another, where the text has one
+unfoldable pub line_after : List ℕ → Line → Option Line
+line_after text l = cond (ltb l.next (length text)) (Some (next_line text l)) None
+
 -- ---- numbers
 
 -- the value of a digit, up to F
@@ -53,23 +62,29 @@ digit_of b = cond (ltb b 48) 0 (cond (ltb b 65) (b - 48) (b - 55))
 
 -- a number with a digit more, in 32 bits
 unfoldable pub grown : ℕ → ℕ → ℕ → ℕ
-grown base value b = cond (eqb base 16) ((16 * value + digit_of b % 16) % 4294967296) ((10 * value + digit_of b % 16) % 4294967296)
+grown base value b = (base * value + digit_of b % 16) % 4294967296
 
 -- what is read once a byte more is. A space (32) or less ends a number; an x (120) starts a hexadecimal one, a digit a decimal one, and a letter a word.
 unfoldable pub token_after : Token → ℕ → Token
-token_after t b =
-    cond (leb b 32) (record { base = 0; value = 0 })
-    (cond (eqb t.base 1) t
-    (cond (eqb b 120) (record { base = 16; value = 0 })
-    (cond (not (eqb t.base 0)) (record { base = t.base; value = grown t.base t.value b })
-    (cond (ltb b 65) (record { base = 10; value = grown 10 0 b }) (record { base = 1; value = b })))))
+token_after Between b = cond (leb b 32) Between (cond (eqb b 120) (Number 16 0) (cond (ltb b 65) (Number 10 (grown 10 0 b)) (Word b)))
+token_after (Word letter) b = cond (leb b 32) Between (Word letter)
+token_after (Number base value) b = cond (leb b 32) Between (cond (eqb b 120) (Number 16 0) (Number base (grown base value b)))
 
--- a list with a number more, where one has ended and there is room
+-- a list with a number more, where there is room
+unfoldable pub pushed : Numbers → ℕ → Numbers
+pushed list value = cond (ltb list.count 160) (record { at = set list.at list.count value; count = list.count + 1 }) list
+
+-- a list with the number of what was read: of a word its first letter, and of nothing none
+unfoldable pub with_value : Numbers → Token → Numbers
+with_value list Between = list
+with_value list (Word letter) = pushed list letter
+with_value list (Number base value) = pushed list value
+
+-- the same where a byte more ends it
 unfoldable pub with_token : Numbers → Token → Token → Numbers
-with_token list before after =
-    cond (leb 160 list.count) (record { at = list.at; count = 160 })
-    (cond (eqb before.base 0 || not (eqb after.base 0)) list
-    (record { at = set list.at list.count before.value; count = list.count + 1 }))
+with_token list before Between = with_value list before
+with_token list before (Word letter) = list
+with_token list before (Number base value) = list
 
 -- what is read of the first bytes from a place on: the numbers that have ended, and the one that has not
 pub record Progress : Type 0 where
@@ -77,7 +92,7 @@ pub record Progress : Type 0 where
   pub token : Token
 
 unfoldable pub read_of : List ℕ → ℕ → ℕ → Progress
-read_of text from zero = record { list = record { at = replicate 160 0; count = 0 }; token = record { base = 0; value = 0 } }
+read_of text from zero = record { list = record { at = replicate 160 0; count = 0 }; token = Between }
 read_of text from (suc k) =
     let before = read_of text from k in
     let next = token_after before.token (get_or text (from + k) 0) in

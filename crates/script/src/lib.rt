@@ -2,14 +2,19 @@
 
 #![tactic(auto)]
 
-ghost use Rattle.std.specs.Prelude.{◌≡◌, cond, ◌<◌, ◌≤◌, eqb, length, get_or, IfOk};
-ghost use Rattle.script.specs.Script.{after, next_line, digit_of, grown, token_after, with_token, numbers_of};
+ghost use Rattle.std.specs.Prelude.{◌≡◌, ◌<◌, ◌≤◌, ◌%◌, ◌/◌, ◌-◌, length, get_or, take, drop, IfOk};
+ghost use Rattle.std.specs.Iterator.{at_most};
+ghost use Rattle.std.specs.Option.{unwrap_or};
+ghost use Rattle.std.specs.Simd.{first_chunks};
+ghost use Rattle.basics.specs.Below.{list_of};
+ghost use Rattle.script.specs.Script.{stands_at, after, no_line, next_line, line_after, digit_of, grown, token_after, pushed, with_token, numbers_of};
 
-use std::io;
+use std::fmt::Display;
 use std::io::Read;
+use std::{array, io};
 
 // A line: its first letter, where its name and its numbers start, and where the next line does; and of the lines before it that it goes by, where their numbers start.
-#[derive(Clone, Copy)]
+#[derive(Clone, Copy, Default)]
 pub struct Line {
     pub letter: u8,
     pub name: usize,
@@ -21,25 +26,91 @@ pub struct Line {
     pub log: usize,
 }
 
+// What every number of a slice is before a call writes into it.
+pub const MARKER: u32 = 7777;
+
 // A list of numbers, and how many there are.
+// Kept: `numbers` promises its list on every call, and a Vec may fail to be made; and there are cases that give a list a count past the numbers that it holds.
 #[derive(Clone, Copy)]
 pub struct List {
     pub at: [u32; 160],
     pub count: usize,
 }
 
-// What is read of a number. The base is 0 between two numbers, and 1 in a word, whose number is its first letter.
+// A case of a script: the script's bytes, the line on which the case stands, and the numbers of that line.
 #[derive(Clone, Copy)]
-struct Token {
-    base: u32,
-    value: u32,
+pub struct Case<'a> {
+    pub text: &'a [u8],
+    pub line: Line,
+    pub own: List,
+}
+
+// What is read of a number: nothing, a word, which has its first letter, or digits.
+#[derive(Clone, Copy)]
+enum Token {
+    Between,
+    Word(u32),
+    Number { base: u32, value: u32 },
+}
+
+impl List {
+    // The number at an index, and 0 past the places.
+    pub fn get(&self, index: usize) -> u32
+        ensures { result ≡ get_or self.now.at index 0 }
+    {
+        self.at.get(index).copied().unwrap_or(0)
+    }
+
+    // The numbers of the first places, as many as are asked for, or of all where there are not so many.
+    pub fn first(&self, count: usize) -> &[u32]
+        ensures { result.now ≡ take count self.now.at }
+    {
+        &self.at[..count.min(160)]
+    }
+
+    // Puts a number behind the others, where there is room.
+    #[tactic(auto, unfolding(crate::specs::Script::pushed))]
+    pub fn push(&mut self, value: u32)
+        ensures { self.new ≡ pushed self.old value }
+    {
+        let count = self.count;
+        if count < 160 {
+            self.at[count] = value;
+            self.count = count + 1;
+        }
+    }
+
+    // The changes that stand in the numbers from a place on, three to a change.
+    pub fn changes(&self, from: usize) -> &[[u32; 3]]
+        ensures { result.now ≡ first_chunks 3 ((length self.now.at - from) / 3) (drop from self.now.at) }
+    {
+        let (changes, _) = self.at[from.min(160)..].as_chunks::<3>();
+        changes
+    }
+
+    // The numbers of the first places as bytes.
+    // Kept: `as`, which narrows: proved to lose nothing.
+    pub fn bytes<const N: usize>(&self) -> [u8; N]
+        ensures { result ≡ list_of N (λ i. get_or self.now.at i 0 % 256) }
+    {
+        array::from_fn(|i| (self.get(i) % 256) as u8)
+    }
 }
 
 // The byte at a place, and 0 past the end.
+// Kept: one expression of the library's under a name, as in `file`.
 fn byte(text: &[u8], at: usize) -> u8
     ensures { result ≡ get_or text.now at 0 }
 {
-    if at < text.len() { text[at] } else { 0 }
+    text.get(at).copied().unwrap_or(0)
+}
+
+// Whether a byte stands at a place, and another does not stand after it.
+#[tactic(auto, unfolding(crate::specs::Script::stands_at))]
+fn stands_at(text: &[u8], wanted: u8, unwanted: u8, at: usize) -> bool
+    ensures { result ≡ stands_at text.now wanted unwanted at }
+{
+    (byte(text, at) == wanted) & (byte(text, at.saturating_add(1)) != unwanted)
 }
 
 // The place after the first byte, from a place on, after which another does not stand, and the text's length where there is none.
@@ -47,21 +118,10 @@ fn after(text: &[u8], from: usize, wanted: u8, unwanted: u8) -> usize
     ensures place { result ≡ after text.now from wanted unwanted }
     ensures onward { from < length text.now → from < result }
 {
-    let mut at = from;
-    while at < text.len() {
-        if (byte(text, at) == wanted) & (byte(text, at + 1) != unwanted) {
-            return at + 1;
-        }
-        at += 1;
+    match (from..text.len()).find(|at| stands_at(text, wanted, unwanted, *at)) {
+        Some(at) => at + 1,
+        None => text.len(),
     }
-    text.len()
-}
-
-// A number, where a line has the letter that it is to have, else the one from the lines before.
-fn kept(letter: u8, wanted: u8, number: usize, earlier: usize) -> usize
-    ensures { result ≡ cond (eqb letter wanted) number earlier }
-{
-    if letter == wanted { number } else { earlier }
 }
 
 // The line after another. One that holds what later lines go by is remembered.
@@ -73,30 +133,26 @@ pub fn next_line(text: &[u8], earlier: Line) -> Line
     let at = earlier.next;
     let letter = byte(text, at);
     let numbers = after(text, at, b':', b':');
+    let kept = |wanted: u8, from: usize| if letter == wanted { numbers } else { from };
     Line {
         letter,
         name: after(text, at, b' ', b' '),
         numbers,
         next: after(text, at, b'\n', b' '),
-        file: kept(letter, b'F', numbers, earlier.file),
-        state: kept(letter, b'S', numbers, earlier.state),
-        trace: kept(letter, b'T', numbers, earlier.trace),
-        log: kept(letter, b'L', numbers, earlier.log),
+        file: kept(b'F', earlier.file),
+        state: kept(b'S', earlier.state),
+        trace: kept(b'T', earlier.trace),
+        log: kept(b'L', earlier.log),
     }
 }
 
 // The value of a digit, up to F.
+// Kept: the script's definitions give every byte a value and every number its last 32 bits, byte by byte; the library's to_digit and from_str_radix give most of them none.
 #[tactic(auto, unfolding(crate::specs::Script::digit_of))]
-fn digit(b: u8) -> u64
+fn digit(b: u8) -> u32
     ensures { result ≡ digit_of b }
 {
-    if b < 48 {
-        return 0;
-    }
-    if b < 65 {
-        return (b - 48) as u64;
-    }
-    (b - 55) as u64
+    u32::from(if b < 65 { b.saturating_sub(48) } else { b - 55 })
 }
 
 // A number with a digit more.
@@ -104,11 +160,7 @@ fn digit(b: u8) -> u64
 fn grown(base: u32, value: u32, b: u8) -> u32
     ensures { result ≡ grown base value b }
 {
-    let low = digit(b) % 16;
-    if base == 16 {
-        return ((16 * (value as u64) + low) % 4294967296) as u32;
-    }
-    ((10 * (value as u64) + low) % 4294967296) as u32
+    base.wrapping_mul(value).wrapping_add(digit(b) % 16)
 }
 
 // What is read once a byte more is.
@@ -117,49 +169,32 @@ fn token_after(t: Token, b: u8) -> Token
     ensures { result ≡ token_after t b }
 {
     if b <= 32 {
-        return Token { base: 0, value: 0 };
+        return Token::Between;
     }
-    if t.base == 1 {
-        return t;
-    }
-    if b == b'x' {
-        return Token { base: 16, value: 0 };
-    }
-    if t.base != 0 {
-        return Token {
-            base: t.base,
-            value: grown(t.base, t.value, b),
-        };
-    }
-    if b < 65 {
-        return Token {
+    match t {
+        Token::Word(_) => t,
+        _ if b == b'x' => Token::Number { base: 16, value: 0 },
+        Token::Number { base, value } => Token::Number {
+            base,
+            value: grown(base, value, b),
+        },
+        Token::Between if b < 65 => Token::Number {
             base: 10,
             value: grown(10, 0, b),
-        };
-    }
-    Token {
-        base: 1,
-        value: b as u32,
+        },
+        Token::Between => Token::Word(u32::from(b)),
     }
 }
 
-// A list with a number more, where one has ended and there is room.
-#[tactic(auto, unfolding(crate::specs::Script::with_token))]
-fn with_token(list: List, before: Token, after: Token) -> List
-    ensures { result ≡ with_token list before after }
+// Puts the number of what was read so far into a list, where a byte more ends it.
+#[tactic(auto, unfolding(crate::specs::Script::with_token, crate::specs::Script::with_value))]
+fn put(list: &mut List, before: Token, after: Token)
+    ensures { list.new ≡ with_token list.old before after }
 {
-    let mut longer = list;
-    let count = list.count;
-    if 160 <= count {
-        longer.count = 160;
-        return longer;
+    match (before, after) {
+        (Token::Word(value) | Token::Number { value, .. }, Token::Between) => list.push(value),
+        _ => {}
     }
-    if (before.base == 0) | (after.base != 0) {
-        return longer;
-    }
-    longer.at[count] = before.value;
-    longer.count = count + 1;
-    longer
 }
 
 // The numbers that start at a place, to the end of their line. A line that starts with a space goes on with the one before it.
@@ -168,21 +203,56 @@ pub fn numbers(text: &[u8], from: usize) -> List
 {
     let end = after(text, from, b'\n', b' ');
     let mut list = List {
-        at: [0u32; 160],
+        at: [0; 160],
         count: 0,
     };
-    let mut token = Token { base: 0, value: 0 };
-    let mut at = from;
-    while at < end {
+    let mut token = Token::Between;
+    for at in from..end {
         let next = token_after(token, byte(text, at));
-        list = with_token(list, token, next);
+        put(&mut list, token, next);
         token = next;
-        at += 1;
     }
     list
 }
 
+// The lines of a script, one after the other: its bytes, and the line that came last.
+#[derive(Drop)]
+pub struct LinesOf<'a> {
+    text: &'a [u8],
+    last: Line,
+}
+
+// The lines of a script, from its start.
+#[tactic(auto, unfolding(crate::specs::Script::no_line))]
+pub fn lines(text: &[u8]) -> LinesOf<'_>
+    ensures text { result.text.now ≡ text.now }
+    ensures start { result.last ≡ no_line }
+{
+    LinesOf {
+        text,
+        last: Line::default(),
+    }
+}
+
+impl<'a> Iterator for LinesOf<'a> {
+    type Item = Line;
+
+    ghost next_gives = { λ s r t. (r ≡ line_after s.text.now s.last) × (t.text ≡ s.text) × (t.last ≡ unwrap_or r s.last) };
+
+    ghost remaining = { λ s. at_most (length s.text.now - s.last.next) };
+
+    #[tactic(auto, unfolding(crate::specs::Script::line_after))]
+    fn next(&mut self) -> Option<Line> {
+        if self.text.len() <= self.last.next {
+            return None;
+        }
+        self.last = next_line(self.text, self.last);
+        Some(self.last)
+    }
+}
+
 // Reads a script until the buffer is full or the input ends, and answers how many bytes it put at the buffer's start.
+// Kept: what the loop counts is bytes that were read, as many at a turn as the input gives, and no index of its own.
 pub fn read(input: &mut impl Read, text: &mut [u8]) -> io::Result<usize>
     ensures { IfOk result (λ count. count ≤ length text.new) }
 {
@@ -197,35 +267,70 @@ pub fn read(input: &mut impl Read, text: &mut [u8]) -> io::Result<usize>
     Ok(count)
 }
 
-// Prints a byte of a name, or for a # the next number, and answers how many numbers were printed.
-fn symbol(rt: &impl Print, b: u8, numbers: List, used: usize) -> io::Result<usize> {
-    if b != b'#' {
-        rt.write_all(&[b])?;
-        return Ok(used);
-    }
-    if 160 <= used {
-        return Ok(used);
-    }
-    rt.print(numbers.at[used])?;
-    Ok(used + 1)
-}
-
-// Prints a line's name, up to its colon, with the numbers that stand for each # in it.
-pub fn name(rt: &impl Print, text: &[u8], l: Line, numbers: List) -> io::Result<()> {
-    let mut used = 0;
-    let mut at = l.name;
-    while at < text.len() {
-        let b = text[at];
-        if b == b':' {
-            break;
+// Reads a script, and calls a function with each of its cases, until one call fails. A comment, an empty line and what later lines go by are none.
+pub fn each_case<F: FnMut(&Case) -> io::Result<()>>(
+    input: &mut impl Read,
+    mut f: F,
+) -> io::Result<()>
+    requires { F.IsAlwaysCallable f }
+{
+    let mut buffer = [0u8; 65536];
+    let count = read(input, &mut buffer)?;
+    let text = &buffer[..count];
+    for line in lines(text) {
+        if line.letter >= b'a' {
+            let own = numbers(text, line.numbers);
+            f(&Case { text, line, own })?;
         }
-        used = symbol(rt, b, numbers, used)?;
-        at += 1;
     }
     Ok(())
 }
 
 // Prints a number after a space.
-pub fn spaced(rt: &impl Print, n: usize) -> io::Result<()> {
+pub fn spaced(rt: &impl Print, n: impl Display + Drop) -> io::Result<()> {
     print!(rt; " {n}")
+}
+
+// Prints numbers, each after a space.
+pub fn all_spaced<T: Display>(rt: &impl Print, numbers: &[T]) -> io::Result<()> {
+    for n in numbers {
+        spaced(rt, n)?;
+    }
+    Ok(())
+}
+
+impl Case<'_> {
+    // Prints the name, up to its colon, with the numbers that stand for each # in it.
+    pub fn name(&self, rt: &impl Print) -> io::Result<()> {
+        let mut numbers = self.own.at.iter();
+        for b in self.text.iter().skip(self.line.name) {
+            if *b == b':' {
+                break;
+            }
+            if *b != b'#' {
+                rt.write_all(&[*b])?;
+            } else if let Some(n) = numbers.next() {
+                rt.print(*n)?;
+            }
+        }
+        Ok(())
+    }
+
+    // Prints the name and the number of a line of the case's own.
+    pub fn label(&self, rt: &impl Print, at: usize) -> io::Result<()> {
+        self.name(rt)?;
+        print!(rt; " {at}:")
+    }
+
+    // Prints numbers four to a line, each line with its label.
+    pub fn rows(&self, rt: &impl Print, numbers: &[u32]) -> io::Result<()> {
+        for (at, row) in numbers.chunks(4).enumerate() {
+            self.label(rt, at)?;
+            all_spaced(rt, row)?;
+            if row.len() == 4 {
+                rt.write_all(b"\n")?;
+            }
+        }
+        Ok(())
+    }
 }

@@ -2,11 +2,10 @@
 
 #![tactic(auto)]
 
-ghost use Rattle.std.specs.Prelude.{◌≡◌, ◌&&◌, leb, get_or};
+ghost use Rattle.std.specs.Prelude.{◌≡◌};
 ghost use Rattle.basics.specs.Below.{every};
-ghost use Rattle.masks.specs.Mask.{size};
 ghost use Rattle.state.specs.Fresh.{empty_queues, nothing_in_flight, state_at_start, fresh};
-ghost use Rattle.state.specs.Range.{counts_in_range, state_in_range, in_range};
+ghost use Rattle.state.specs.Range.{counts_in_range, turns_in_range, state_in_range, in_range};
 
 use flight::Flight;
 use policy::Policy;
@@ -14,7 +13,8 @@ use queues::Queues;
 use requests::{LAST_CYCLE, Record};
 
 // Who has the turn, and what each class has left.
-#[derive(Clone, Copy)]
+// Kept: two lists with an entry for each class, and a pointer of 0 for none, are what the definition turns_in_range and the turns' rules read.
+#[derive(Clone, Copy, PartialEq, Eq)]
 pub struct Turns {
     pub owner: usize,
     // Whether the owner's dead time is elided. Document 01: dropped.
@@ -26,7 +26,7 @@ pub struct Turns {
 }
 
 // A state between two calls.
-#[derive(Clone, Copy)]
+#[derive(Clone, Copy, PartialEq, Eq)]
 pub struct State {
     // The number of the next tick.
     pub cycle: u32,
@@ -38,6 +38,7 @@ pub struct State {
 }
 
 // The answer of asking for a fresh state: 0, or 13 and the state of all zeros.
+// Kept: a number with a state also where it is refused, as the definition fresh gives it and an_unfit_policy_gets_a_state.edit tries it.
 #[derive(Clone, Copy)]
 pub struct Made {
     pub status: u32,
@@ -45,6 +46,7 @@ pub struct Made {
 }
 
 // The answer of an offer: 0, or the number that refuses it, and the state after it.
+// Kept: a number with a state also where it is refused, which the definition offer (rules: Call) hands back.
 #[derive(Clone, Copy)]
 pub struct Offered {
     pub status: u32,
@@ -52,6 +54,7 @@ pub struct Offered {
 }
 
 // The answer of a tick: 0, or the number that refuses it, the state after it, and what it showed.
+// Kept: a number with a state also where it is refused, which the definition tick (rules: Call) hands back.
 #[derive(Clone, Copy)]
 pub struct Ticked {
     pub status: u32,
@@ -60,6 +63,7 @@ pub struct Ticked {
 }
 
 // The answer of a run: 0, or the number that refuses it, and the state after it.
+// Kept: a number with a state also where it is refused, which the definition run (rules: Run) hands back.
 #[derive(Clone, Copy)]
 pub struct Ran {
     pub status: u32,
@@ -69,102 +73,78 @@ pub struct Ran {
 fn counts_in_range(p: Policy, s: State) -> bool
     ensures { result ≡ counts_in_range p s }
 {
-    let turns = s.turns;
-    (s.classes == p.classes) & order::is_class(p.classes, turns.owner) & (s.cycle <= LAST_CYCLE)
+    (s.classes == p.classes) & order::is_class(p.classes, s.turns.owner) & (s.cycle <= LAST_CYCLE)
 }
 
 // Every class's pointer is one of its covers' numbers or 0, and its turns left are at most its cap.
-fn turns_in_range(
-    covers: &[u16; 16],
-    caps: &[u32; 16],
-    left: &[u32; 16],
-    pointers: &[usize; 16],
-) -> bool
-    ensures { result ≡ every 16 (λ c. leb (get_or pointers.now c 0) (size (get_or covers.now c 0))
-        && leb (get_or left.now c 0) (get_or caps.now c 0)) }
+fn turns_in_range(p: &Policy, turns: &Turns) -> bool
+    ensures { result ≡ every 16 (turns_in_range p.now turns.now) }
 {
-    let mut class = 0;
-    while class < 16 {
-        let covered = masks::size(covers[class]);
-        if !((pointers[class] <= covered) & (left[class] <= caps[class])) {
-            return false;
-        }
-        class += 1;
-    }
-    true
+    (0..16).all(|class| {
+        (turns.pointers[class] <= masks::size(p.covers[class]))
+            & (turns.left[class] <= p.caps[class])
+    })
 }
 
 // The state's part of document 01's row 13.
 fn state_in_range(s: State, p: Policy) -> bool
     ensures { result ≡ state_in_range p s }
 {
-    if !counts_in_range(p, s) {
-        return false;
-    }
-    let queues = s.queues;
-    let slots = queues.slots;
-    let heads = queues.heads;
-    let lengths = queues.lengths;
-    let passed = queues.passed;
-    let turns = s.turns;
-    let left = turns.left;
-    let pointers = turns.pointers;
-    let flight = s.flight;
-    let covers = p.covers;
-    let caps = p.caps;
-    let timing = p.timing;
-    queues::queues_in_range(p.classes, timing.ranks, &slots, &heads, &lengths, &passed)
-        & turns_in_range(&covers, &caps, &left, &pointers)
-        & flight::flight_in_range(p.classes, timing, s.cycle, flight)
+    counts_in_range(p, s)
+        & queues::queues_in_range(p.classes, p.timing.ranks, &s.queues)
+        & turns_in_range(&p, &s.turns)
+        & flight::flight_in_range(p.classes, p.timing, s.cycle, s.flight)
 }
 
 // Whether a policy and a state handed in are in range: document 01's row 13 does not apply.
+#[tactic(auto, unfolding(crate::specs::Range::in_range))]
 pub fn in_range(p: Policy, s: State) -> bool
     ensures { result ≡ in_range p s }
 {
     policy::in_range(p) & state_in_range(s, p)
 }
 
+// Kept: zeros written out, here and below, as in `policy::none`.
+#[tactic(auto, unfolding(crate::specs::Fresh::empty_queues, crate::specs::Fresh::zeros))]
 fn empty_queues() -> Queues
     ensures { result ≡ empty_queues }
 {
     Queues {
-        slots: [0u32; 128],
-        heads: [0usize; 16],
-        lengths: [0usize; 16],
-        passed: [0usize; 16],
+        slots: [0; 128],
+        heads: [0; 16],
+        lengths: [0; 16],
+        passed: [0; 16],
     }
 }
 
+#[tactic(auto, unfolding(crate::specs::Fresh::nothing_in_flight, crate::specs::Fresh::zeros))]
 fn nothing_in_flight() -> Flight
     ensures { result ≡ nothing_in_flight }
 {
     Flight {
-        columns: [0u32; 32],
-        responses: [0u32; 32],
-        banks: [0u32; 32],
+        columns: [0; 32],
+        responses: [0; 32],
+        banks: [0; 32],
         last: 0,
     }
 }
 
 // A state at cycle 0 with these turns left: empty queues, nothing in flight, pointers 0, owner 0 and its dead time kept.
+#[tactic(auto, unfolding(crate::specs::Fresh::state_at_start, crate::specs::Fresh::zeros))]
 fn state_at_start(classes: usize, left: [u32; 16]) -> State
     ensures { result ≡ state_at_start classes left }
 {
-    let queues = empty_queues();
-    let flight = nothing_in_flight();
-    let turns = Turns {
-        owner: 0,
-        elided: false,
-        left,
-        pointers: [0usize; 16],
-    };
     State {
         cycle: 0,
         classes,
-        queues,
-        turns,
-        flight,
+        queues: empty_queues(),
+        turns: Turns {
+            owner: 0,
+            elided: false,
+            left,
+            pointers: [0; 16],
+        },
+        flight: nothing_in_flight(),
     }
 }
 
@@ -173,10 +153,13 @@ pub fn fresh(p: Policy) -> Made
     ensures { result ≡ fresh p }
 {
     if !policy::in_range(p) {
-        let state = state_at_start(0, [0u32; 16]);
-        return Made { status: 13, state };
+        return Made {
+            status: 13,
+            state: state_at_start(0, [0; 16]),
+        };
     }
-    let left = p.caps;
-    let state = state_at_start(p.classes, left);
-    Made { status: 0, state }
+    Made {
+        status: 0,
+        state: state_at_start(p.classes, p.caps),
+    }
 }

@@ -7,6 +7,7 @@ use native.Mathlib.Numerals.{add-one}
 use native.Mathlib.Omega.{arith}
 use lib.ListN.{length, get_or, drop, set, length-append}
 use lib.Seq.{sets}
+use Rattle.std.specs.Int.{w32, to_be_bytes}
 use Rattle.text.specs.Lines.{digit, hex_of, line_of, line_at, lines_of}
 use Rattle.text.specs.Words.{word_at, words_of}
 use Rattle.basics.proofs.Stores.{sets-append, written-more}
@@ -20,36 +21,38 @@ joined : (vs ws l : List ℕ) (i : ℕ) {before after : List ℕ}
     → after ≡ sets l i (vs ++ ws)
 joined vs ws l i b a = a ∙ ap (λ (q : List ℕ). sets q (i + length vs) ws) b ∙ sets-append vs ws l i
 
--- the four pairs of a number and its sign
-pub number_put : (t l : List ℕ) (i n s : ℕ) {la lb lc ld : List ℕ}
+-- the four pairs of a number, one for each of its bytes, and its sign
+pub number_put : (t l : List ℕ) (i n s : ℕ) (bytes : List ℕ) {la lb lc ld : List ℕ}
     → ((k : ℕ) → k < 256 → (get_or t (2 * k) 0 ≡ digit (k / 16)) × (get_or t (2 * k + 1) 0 ≡ digit (k % 16)))
     → n < 16 ^ 8
-    → la ≡ sets l i (get_or t (2 * (n / 16777216)) 0 ∷ get_or t (2 * (n / 16777216) + 1) 0 ∷ [])
-    → lb ≡ sets la (i + 2) (get_or t (2 * (n / 65536 % 256)) 0 ∷ get_or t (2 * (n / 65536 % 256) + 1) 0 ∷ [])
-    → lc ≡ sets lb (i + 4) (get_or t (2 * (n / 256 % 256)) 0 ∷ get_or t (2 * (n / 256 % 256) + 1) 0 ∷ [])
-    → ld ≡ sets lc (i + 6) (get_or t (2 * (n % 256)) 0 ∷ get_or t (2 * (n % 256) + 1) 0 ∷ [])
+    → bytes ≡ to_be_bytes w32 n
+    → la ≡ sets l i (get_or t (2 * get_or bytes 0 0) 0 ∷ get_or t (2 * get_or bytes 0 0 + 1) 0 ∷ [])
+    → lb ≡ sets la (i + 2) (get_or t (2 * get_or bytes 1 0) 0 ∷ get_or t (2 * get_or bytes 1 0 + 1) 0 ∷ [])
+    → lc ≡ sets lb (i + 4) (get_or t (2 * get_or bytes 2 0) 0 ∷ get_or t (2 * get_or bytes 2 0 + 1) 0 ∷ [])
+    → ld ≡ sets lc (i + 6) (get_or t (2 * get_or bytes 3 0) 0 ∷ get_or t (2 * get_or bytes 3 0 + 1) 0 ∷ [])
     → set ld (i + 8) s ≡ sets l i (hex_of n ++ (s ∷ []))
 unfolding hex_of
-number_put t l i n s {la} {lb} {lc} {ld} pair h ea eb ec ed =
+number_put t l i n s bytes {la} {lb} {lc} {ld} pair h is ea eb ec ed =
     let a : List ℕ = digit (n / 16 ^ 7 % 16) ∷ digit (n / 16 ^ 6 % 16) ∷ [] in
     let b : List ℕ = digit (n / 16 ^ 5 % 16) ∷ digit (n / 16 ^ 4 % 16) ∷ [] in
     let c : List ℕ = digit (n / 16 ^ 3 % 16) ∷ digit (n / 16 ^ 2 % 16) ∷ [] in
     let d : List ℕ = digit (n / 16 % 16) ∷ digit (n % 16) ∷ [] in
-    let pa = pair (n / 16777216) (omega arith) in
+    let pa = pair (n / 16777216 % 256) (omega arith) in
     let pb = pair (n / 65536 % 256) (omega arith) in
     let pc = pair (n / 256 % 256) (omega arith) in
     let pd = pair (n % 256) (omega arith) in
-    let e7 : n / 16777216 / 16 ≡ n / 16 ^ 7 % 16 = omega arith in
+    let e7 : n / 16777216 % 256 / 16 ≡ n / 16 ^ 7 % 16 = omega arith in
+    let e6 : n / 16777216 % 256 % 16 ≡ n / 16 ^ 6 % 16 = omega arith in
     let e5 : n / 65536 % 256 / 16 ≡ n / 16 ^ 5 % 16 = omega arith in
     let e4 : n / 65536 % 256 % 16 ≡ n / 16 ^ 4 % 16 = omega arith in
     let e3 : n / 256 % 256 / 16 ≡ n / 16 ^ 3 % 16 = omega arith in
     let e2 : n / 256 % 256 % 16 ≡ n / 16 ^ 2 % 16 = omega arith in
     let e1 : n % 256 / 16 ≡ n / 16 % 16 = omega arith in
     let e0 : n % 256 % 16 ≡ n % 16 = omega arith in
-    let one : la ≡ sets l i a = rw (pa.0, pa.1, e7) at ea in
-    let two : lb ≡ sets l i (a ++ b) = joined a b l i one (rw (pb.0, pb.1, e5, e4) at eb) in
-    let three : lc ≡ sets l i (a ++ b ++ c) = joined (a ++ b) c l i two (rw (pc.0, pc.1, e3, e2) at ec) in
-    let four : ld ≡ sets l i (a ++ b ++ c ++ d) = joined (a ++ b ++ c) d l i three (rw (pd.0, pd.1, e1, e0) at ed) in
+    let one : la ≡ sets l i a = rw (is, pa.0, pa.1, e7, e6) at ea in
+    let two : lb ≡ sets l i (a ++ b) = joined a b l i one (rw (is, pb.0, pb.1, e5, e4) at eb) in
+    let three : lc ≡ sets l i (a ++ b ++ c) = joined (a ++ b) c l i two (rw (is, pc.0, pc.1, e3, e2) at ec) in
+    let four : ld ≡ sets l i (a ++ b ++ c ++ d) = joined (a ++ b ++ c) d l i three (rw (is, pd.0, pd.1, e1, e0) at ed) in
     joined (a ++ b ++ c ++ d) (s ∷ []) l i four refl
 
 -- the four runs of a line

@@ -1,12 +1,12 @@
 -- What the functions that work in place are lent, and what they leave.
-use Rattle.std.specs.Prelude.{◌≡◌, ℕ, ◌+◌, ◌%◌, ◌<◌, ◌≤◌, max, Bool, true, false, cond, ◌&&◌, List, ◌==◌, slice_index, slice_index_or}
+use Rattle.std.specs.Prelude.{◌≡◌, ℕ, ◌+◌, ◌%◌, ◌<◌, ◌≤◌, max, true, false, cond, List, ◌==◌, slice_index_or, Result, MatchResult}
 use Rattle.timing.specs.declared.Timing.{Timing}
 use Rattle.requests.specs.Sizes.{ring_places}
 use Rattle.requests.specs.Word.{rank_of, kind_of, bank_place, command_number}
-use Rattle.queues.specs.Waiting.{length_of, place}
+use Rattle.queues.specs.Waiting.{length_of, waiting_at}
 use Rattle.rules.specs.Queue.{enqueue}
-use Rattle.rules.specs.Wire.{opens_at, bank_gap, rank_opens, gaps_met_by}
-use Rattle.rules.specs.Step.{Driven, Bus, may_pass, may_go, drive}
+use Rattle.rules.specs.Wire.{opens_at, bank_gap, rank_opens}
+use Rattle.rules.specs.Step.{Driven, Bus, may_go, goes_at, drive}
 use Rattle.rules.specs.Ready.{Ready}
 use Rattle.queues.specs.declared.Queues.{Queues}
 use Rattle.flight.specs.declared.Flight.{Flight}
@@ -23,18 +23,17 @@ opens_by timing last read write banks word =
     let of_bank = slice_index_or banks (bank_place word) 0 in
     max (max (cond (kind_of word == 0) read write) (rank_opens timing last (rank_of word))) (opens_at of_bank (bank_gap timing of_bank))
 
--- what `may_go` says of a class's k-th request from the oldest, of the numbers and arrays that are worked on
-abbrev pub may_go_by : Timing → ℕ → ℕ → List ℕ → List ℕ → ℕ → ℕ → ℕ → ℕ → Bool
-may_go_by timing cycle last slots banks class head passed k =
-    let word = slice_index_or slots (place class head k) 0 in
-    may_pass k passed && gaps_met_by timing last (slice_index banks (bank_place word)) (rank_of word) (kind_of word) cycle
+-- the command bus of a class as the owner, at a cycle; whether its dead time is dropped is not asked of it
+abbrev pub bus_by : Timing → ℕ → ℕ → Queues → Flight → Bus
+bus_by timing cycle class queues flight =
+    record { timing = timing; cycle = cycle; owner = class; elided = false; queues = queues; flight = flight }
 
--- a queue is no longer than its ring, and each of its requests has a kind
-pub record Scannable (slots : List ℕ) (class head length : ℕ) : Type 0 where
-  pub short : length ≤ ring_places
-  pub kind : (k : ℕ) → k < length → kind_of (slice_index slots (place class head k)) < 2
+-- a class's queue is no longer than its ring, and each of its requests has a kind
+pub record Scannable (q : Queues) (class : ℕ) : Type 0 where
+  pub short : length_of q class ≤ ring_places
+  pub kind : (k : ℕ) → k < length_of q class → kind_of (waiting_at q class k) < 2
 
--- the command bus, of the numbers and arrays that are worked on
+-- the command bus, of the numbers, queues and flight that are worked on
 abbrev pub bus_of : Timing → Instant → Queues → Flight → Bus
 bus_of timing at queues flight =
     record { timing = timing; cycle = at.cycle; owner = at.owner; elided = at.elided; queues = queues; flight = flight }
@@ -46,6 +45,10 @@ at_cycle b t = record { timing = b.timing; cycle = t; owner = b.owner; elided = 
 -- as queues and last activates stand, none of the owner's requests may go before this tick, the ticks counted from 1
 abbrev pub NoneUntil : Bus → ℕ → Type 0
 NoneUntil b until = (t : ℕ) → t + 1 < until → (k : ℕ) → k < length_of b.queues b.owner → may_go (at_cycle b t) k ≡ false
+
+-- a look through the owner's queue answers the place of the request that goes; or, where none may go, a tick that has not come, before which none may
+abbrev pub Looks : Bus → Result ℕ ℕ → Type 0
+Looks b r = MatchResult r (λ k. k ≡ goes_at b) (λ until. (b.cycle + 1 < until) × NoneUntil b until)
 
 -- the bus has what the second step rests on, the offset that is handed in is that of the cycle, and before the tick `until` that is handed in none may go
 pub record Drivable (b : Bus) (offset until : ℕ) : Type 0 where

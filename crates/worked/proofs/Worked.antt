@@ -16,7 +16,7 @@ use Rattle.masks.specs.Mask.{member, includes, size, nth, class_mask, below_mask
 use Rattle.order.specs.Order.{is_class_in, flows_in, strictly_in, row_fits, rows_fit, antisymmetric_at, antisymmetric, transitive_at, transitive, has_least, least_at, least_in, above_some, between_in, covers_in, cover_set, risen_to, longest_in}
 use Rattle.turns.specs.Turns.{minimums_sum, turns_sound, minimums_above, cap_in, free_turns, home_turn_in, home_place, minimums_below, home_at}
 use Rattle.timing.specs.Timing.{within, gaps_within, bank_within, rank_within, timing_sound}
-use Rattle.policy.specs.Policy.{is_class, flows, least, above, covers_of, cap, walk_bound, home_turn, home_class, first_failing, policy_tests, refusal, stored_fits, all_stored_fits, shaped, in_range, minimum}
+use Rattle.policy.specs.Policy.{made, is_class, flows, least, above, covers_of, cap, walk_bound, home_turn, home_class, first_failing, policy_tests, refusal, stored_fits, all_stored_fits, shaped, in_range, minimum}
 use Rattle.file.specs.File.{byte, word, kind, start, body_size, kinds_fit, bodies_abut, contents_fit, class_count, lengths_fit, row_at, epoch_of, minimum_at, ranks_of, rank_gap_of, timing_of, held, no_policy, file_tests, status, refused_with, read_file}
 use Rattle.file.specs.Taken.{policy_of}
 use Rattle.policy.specs.declared.Policy.{Policy}
@@ -64,7 +64,7 @@ unfolding refusal-computed covers_of cap is_class stored_fits minimum all_stored
 range-computed p = in_range p
 
 file-computed : List ℕ → Reading
-unfolding refusal-computed printed printed_ranked byte word kind start body_size kinds_fit bodies_abut contents_fit class_count lengths_fit row_at epoch_of minimum_at ranks_of rank_gap_of timing_of held no_policy file_tests status refused_with read_file
+unfolding refusal-computed printed printed_ranked byte word kind start body_size kinds_fit bodies_abut contents_fit class_count lengths_fit row_at epoch_of minimum_at ranks_of rank_gap_of timing_of held made no_policy file_tests status refused_with read_file
 file-computed file = read_file file
 
 -- ---- logs, each call without the test of its range

@@ -598,7 +598,7 @@ module _ (s : List ℕ) (given : Bytes s) (h : Encoded s) where
       get_or-list_of (file_byte q) (file_size q) k below ∙ bytes_same k (omega (arith, whole)))
 
 shape-read : (s : List ℕ) → TimingShape (read_file s).policy.timing
-unfolding read_file held timing_of refused_with no_policy
+unfolding read_file held made timing_of refused_with no_policy
 shape-read s =
     ⊎_elim (λ yes. rw yes (record { four_gaps = refl; two_gaps = refl }))
     (λ no. rw no (record { four_gaps = refl; two_gaps = refl }))

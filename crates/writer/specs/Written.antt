@@ -1,10 +1,11 @@
 -- A policy written as a file: "A contents table, then the bodies." The bytes are given by their place, as `Encodes` (file: `Taken`) reads them.
-use Rattle.std.specs.Prelude.{cond, List, [], ◌∷◌, ◌++◌, ℕ, ◌+◌, ◌-◌, ◌*◌, ◌/◌, ◌%◌, leb, ltb, eqb, length, get_or, drop}
+use Rattle.std.specs.Prelude.{Result, Ok, Err, cond, List, [], ◌∷◌, ◌++◌, ℕ, ◌+◌, ◌-◌, ◌*◌, ◌/◌, ◌%◌, leb, ltb, eqb, length, get_or, drop}
 use Rattle.basics.specs.Below.{list_of}
 use Rattle.policy.specs.Policy.{minimum, in_range}
 use Rattle.timing.specs.declared.Timing.{Timing}
 use Rattle.policy.specs.declared.Policy.{Policy}
-use Rattle.writer.specs.declared.Written.{Written}
+use Rattle.refusals.specs.Refusal.{number}
+use Rattle.refusals.specs.declared.Refusal.{Refusal}
 
 -- ---- the sizes
 
@@ -70,6 +71,16 @@ file_of p = list_of (file_size p) (file_byte p)
 -- 13: "a state or policy handed in has numbers out of range"; 16: too little room. 0 where neither refuses it.
 unfoldable pub write_status : Policy → List ℕ → ℕ
 write_status p out = cond (in_range p) (cond (leb (file_size p) (length out)) 0 16) 13
+
+-- what the call answers: 0, or the number that refuses it, and how many bytes were written
+pub record Written : Type 0 where
+  pub status : ℕ
+  pub size : ℕ
+
+-- so much is said by the size of what was written, or by what turned it down
+unfoldable pub written_of : Result ℕ Refusal → Written
+written_of (Ok n) = record { status = 0; size = n }
+written_of (Err r) = record { status = number r; size = 0 }
 
 -- and how many bytes were written, none where it is refused
 unfoldable pub writing : Policy → List ℕ → Written

@@ -2,27 +2,26 @@
 
 #![tactic(auto)]
 
-ghost use Rattle.std.specs.Prelude.{◌≡◌, true, ◌++◌, ◌≤◌, ◌<◌, length, get_or, drop};
+ghost use Rattle.std.specs.Prelude.{◌≡◌, true, ◌++◌, ◌≤◌, length, get_or, drop};
 ghost use Rattle.policy.specs.Policy.{in_range};
-ghost use Rattle.writer.specs.Written.{timing_size, file_size, contents, half_of, order_byte, turns_byte, timing_bytes, file_byte, file_of, writing, out_after};
+ghost use Rattle.writer.specs.Written.{timing_size, file_size, contents, half_of, order_byte, turns_byte, timing_bytes, file_byte, file_of, written_of, writing, out_after};
 
 use policy::Policy;
+use refusals::Refusal;
 use timing::Timing;
 
-// The answer of writing a policy: 0, or the number that refuses it, and how many bytes were written.
-#[derive(Clone, Copy)]
-pub struct Written {
-    pub status: u32,
-    pub size: usize,
-}
-
 // How many bytes the timing body has: the eleventh is the gap between ranks, where there are several.
+#[tactic(auto, unfolding(crate::specs::Written::timing_size))]
 fn timing_size(t: Timing) -> usize
-    ensures { result ≡ timing_size t }
+    ensures value { result ≡ timing_size t }
+    ensures few { result ≤ 11 }
 {
     if t.ranks == 4 { 11 } else { 10 }
 }
 
+// Kept: that there are at most 16 classes is asked here and by the three functions below that place bytes, and is no invariant of Policy: a policy of any numbers may be handed in, and
+// `write` turns it down with 13 (`write_status` in specs/Written.antt).
+#[tactic(auto, unfolding(crate::specs::Written::file_size))]
 fn file_size(p: Policy) -> usize
     requires { p.classes ≤ 16 }
     ensures { result ≡ file_size p }
@@ -32,6 +31,7 @@ fn file_size(p: Policy) -> usize
 }
 
 // The contents table: where each body starts, and how long it is.
+// Kept: `as`, here and below, which narrows: proved to lose nothing.
 fn contents_byte(p: Policy, k: usize) -> u32
     requires { p.classes ≤ 16 }
     ensures { result ≡ get_or (contents p.classes (timing_size p.timing)) k 0 }
@@ -57,20 +57,20 @@ fn contents_byte(p: Policy, k: usize) -> u32
         size,
         0,
     ];
-    if k < 16 { table[k] } else { 0 }
+    table.get(k).copied().unwrap_or(0)
 }
 
 // Half of a row: 0 the low one, 1 the high one.
+// Kept: 0 and 1 for the halves, as the definition half_of takes them.
+#[tactic(auto, unfolding(crate::specs::Written::half_of))]
 fn half_of(row: u16, half: usize) -> u32
     ensures { result ≡ half_of row half }
 {
-    if half == 0 {
-        (row % 256) as u32
-    } else {
-        (row / 256) as u32
-    }
+    let [low, high] = row.to_le_bytes();
+    u32::from(if half == 0 { low } else { high })
 }
 
+#[tactic(auto, unfolding(crate::specs::Written::order_byte))]
 fn order_byte(p: Policy, k: usize) -> u32
     requires { p.classes ≤ 16 }
     ensures { result ≡ order_byte p k }
@@ -79,9 +79,10 @@ fn order_byte(p: Policy, k: usize) -> u32
         return p.classes as u32;
     }
     let rows = p.rows;
-    half_of(order::row_of(rows, (k - 1) / 2), (k - 1) % 2)
+    half_of(order::of_class(rows, (k - 1) / 2, 0), (k - 1) % 2)
 }
 
+#[tactic(auto, unfolding(crate::specs::Written::turns_byte, policy::specs::Policy::minimum))]
 fn turns_byte(p: Policy, k: usize) -> u32
     ensures { result ≡ turns_byte p k }
 {
@@ -89,7 +90,7 @@ fn turns_byte(p: Policy, k: usize) -> u32
         return p.epoch;
     }
     let minimums = p.minimums;
-    turns::number_of(minimums, k - 1)
+    order::of_class(minimums, k - 1, 0)
 }
 
 fn timing_byte(t: Timing, k: usize) -> u32
@@ -101,10 +102,11 @@ fn timing_byte(t: Timing, k: usize) -> u32
         t.turn, t.dead, gaps[0], gaps[1], gaps[2], gaps[3], bank[0], bank[1], t.column, t.response,
         t.rank,
     ];
-    if k < 11 { table[k] } else { 0 }
+    table.get(k).copied().unwrap_or(0)
 }
 
 // The byte at a place of the file.
+#[tactic(auto, unfolding(crate::specs::Written::file_byte))]
 fn file_byte(p: Policy, k: usize) -> u32
     requires { p.classes ≤ 16 }
     ensures { result ≡ file_byte p k }
@@ -128,31 +130,25 @@ fn fill(p: Policy, size: usize, out: &mut [u8])
     requires size_value { (size ≡ file_size p) × (size ≤ length out.old) }
     ensures { out.new ≡ file_of p ++ drop (file_size p) out.old }
 {
-    let mut k = 0;
-    while k < size {
+    for k in 0..size {
         out[k] = file_byte(p, k) as u8;
-        k += 1;
     }
 }
 
-// Writes the file of a policy to the start of `out`: status 0 and how many bytes it has. A policy out of range gets 13, and too little room 16; then nothing is written.
-pub fn write(p: Policy, out: &mut [u8]) -> Written
-    ensures value { result ≡ writing p out.old }
+// Writes the file of a policy to the start of `out`, and answers how many bytes it has. A policy out of range is turned down with 13, and too little room with 16; then nothing is
+// written.
+#[tactic(auto, unfolding(crate::specs::Written::write_status, crate::specs::Written::written_of, crate::specs::Written::writing, crate::specs::Written::out_after, refusals::specs::Refusal::number))]
+pub fn write(p: Policy, out: &mut [u8]) -> Result<usize, Refusal>
+    ensures value { written_of result ≡ writing p out.old }
     ensures out_after { out.new ≡ out_after p out.old }
 {
     if !policy::in_range(p) {
-        return Written {
-            status: 13,
-            size: 0,
-        };
+        return Err(Refusal::OutOfRange);
     }
     let size = file_size(p);
     if out.len() < size {
-        return Written {
-            status: 16,
-            size: 0,
-        };
+        return Err(Refusal::Room);
     }
     fill(p, size, out);
-    Written { status: 0, size }
+    Ok(size)
 }

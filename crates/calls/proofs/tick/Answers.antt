@@ -40,7 +40,7 @@ returns c =
     let left = c.run-ran.new.log in
     let state = one_state p c.args.s 0 c.run-ran.result made none in
     let log = c.run-ran.ensures.log_after ∙ one-log p c.args.s 0 c.run-ran.result made none in
-    ap (λ (w : Wires). ticked-of (get_or left 0 0) c.run-ran.result.state w (get_or left 2 0) (get_or left 3 0)) c.wires_of-wires.ensures
+    ap (λ (w : Wires). ticked-of (get_or left 0 0) c.run-ran.result.state w (get_or left 2 0) (get_or left 3 0)) c.wires_of.ensures
     ∙ ap₂ read_back state log
     ∙ ap (λ (a : Answer). ticked-of a.status a.state (wires_of a.command) a.response a.turn) (tick_called p c.args.s)
     ∙ ap (λ (w : Wires). ticked-of (tick p c.args.s).status (tick p c.args.s).state w (tick p c.args.s).shown.response (tick p c.args.s).shown.turn) (tick-wires p c.args.s (one-fits p c.args.s 0 c.run-ran.result made none))

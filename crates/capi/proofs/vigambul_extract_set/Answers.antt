@@ -1,12 +1,12 @@
 -- `capi::vigambul_extract_set` meets its contract: the file is refused, or the extract is made by its policy.
-use mathlib.Core.Path.{◌≡◌, sym, ap, ◌∙◌}
+use mathlib.Core.Path.{sym, ap, ◌∙◌}
 use mathlib.Core.List.{List}
 use Prim.Native.Nat.{ℕ}
 use Rattle.policy.specs.declared.Policy.{Policy}
 use Rattle.file.specs.declared.Reading.{Reading}
-use Rattle.extract.specs.Extract.{extract_set, out_after_set}
-use Rattle.extract.specs.declared.Extracted.{Extracted}
+use Rattle.extract.specs.Extract.{Extracted, extract_set, out_after_set}
 use Rattle.capi.specs.Extracts.{file_set_status, file_set_count, file_set_out}
+use Rattle.capi.proofs.Told.{extracted-status, extracted-count}
 use Rattle.capi.proofs.Sides.{refused-extract, taken-extract}
 use Rattle.capi.proofs.vigambul_extract_set.Goals as goal
 use Rattle.capi.proofs.vigambul_extract_set.Goals.{Start}
@@ -30,5 +30,9 @@ returns c =
     let read = c.read-reading.ensures in
     let side = taken-extract c.args.file.now (call (goal.at.returns c).Start) (after (goal.at.returns c).Start) c.args.out.now (sym (ap (λ (r : Reading). r.status) read) ∙ c.if-reading-ne0.false) in
     let policy = ap (λ (r : Reading). r.policy) read in
-    let answer : c.extract_set-together.result ≡ call (goal.at.returns c).Start c.read-reading.result.policy = c.extract_set-together.ensures.value in
-    let right = answer ∙ ap (call (goal.at.returns c).Start) policy in record { value = ap (λ (e : Extracted). e.count) right ∙ sym side.1; status_after = ap (λ (e : Extracted). e.status) right ∙ sym side.0; out_after = c.extract_set-together.ensures.out_after ∙ ap (after (goal.at.returns c).Start) policy ∙ sym side.2 }
+    let right = c.extract_set-together.ensures.value ∙ ap (call (goal.at.returns c).Start) policy in
+    record {
+      value = c.unwrap_or.ensures ∙ extracted-count _ ∙ ap (λ (e : Extracted). e.count) right ∙ sym side.1;
+      status_after = c.status_of.ensures ∙ extracted-status _ ∙ ap (λ (e : Extracted). e.status) right ∙ sym side.0;
+      out_after = c.extract_set-together.ensures.out_after ∙ ap (after (goal.at.returns c).Start) policy ∙ sym side.2;
+    }

@@ -22,13 +22,13 @@ returns c =
     let read = c.read-reading.ensures in
     let side = taken a.file.now a.trace.now a.log.now (sym (ap (λ (r : Reading). r.status) read) ∙ c.if-reading-ne0.false) in
     let p = c.read-reading.result.policy in
-    let state : c.fresh-made.result.state ≡ (fresh p).state = ap (λ (m : Made). m.state) c.fresh-made.ensures in
+    let state : c.fresh.result.state ≡ (fresh p).state = ap (λ (m : Made). m.state) c.fresh.ensures in
     let policy = ap (λ (r : Reading). r.policy) read in record {
-      value = ap (λ (r : Ran). r.status) c.run-ran.ensures.value
+      value = ap (λ (r : Ran). r.status) c.run.ensures.value
           ∙ ap (λ (s : State). (run p s a.trace.now a.log.now).status) state
           ∙ ap (λ (p : Policy). (run p (fresh p).state a.trace.now a.log.now).status) policy
           ∙ sym side.0;
-      log_after = c.run-ran.ensures.log_after
+      log_after = c.run.ensures.log_after
           ∙ ap (λ (s : State). log_after p s a.trace.now a.log.now) state
           ∙ ap (λ (p : Policy). log_after p (fresh p).state a.trace.now a.log.now) policy
           ∙ sym side.1;

@@ -1,9 +1,9 @@
 -- `capi::vigambul_walk_bound` meets its contract: the file is refused, or the bound is that of its policy.
-use mathlib.Core.Path.{◌≡◌, sym, ap, ◌∙◌}
-use Rattle.policy.specs.Policy.{bound_for}
+use mathlib.Core.Path.{sym, ap, ◌∙◌}
+use Rattle.policy.specs.Policy.{Bound, bound_for}
 use Rattle.policy.specs.declared.Policy.{Policy}
-use Rattle.policy.specs.declared.Bound.{Bound}
 use Rattle.file.specs.declared.Reading.{Reading}
+use Rattle.capi.proofs.Told.{bound-status, bound-classes}
 use Rattle.capi.proofs.Sides.{refused-bound, taken-bound}
 use Rattle.capi.proofs.vigambul_walk_bound.Goals as goal
 
@@ -18,5 +18,8 @@ returns c =
     let a = c.args in
     let read = c.read-reading.ensures in
     let side = taken-bound a.file.now a.class (sym (ap (λ (r : Reading). r.status) read) ∙ c.if-reading-ne0.false) in
-    let answer : c.walk_bound-bound.result ≡ bound_for c.read-reading.result.policy a.class = c.walk_bound-bound.ensures in
-    let right = answer ∙ ap (λ (p : Policy). bound_for p a.class) (ap (λ (r : Reading). r.policy) read) in record { value = ap (λ (b : Bound). b.classes) right ∙ sym side.1; status_after = ap (λ (b : Bound). b.status) right ∙ sym side.0 }
+    let right = c.walk_bound-bound.ensures ∙ ap (λ (p : Policy). bound_for p a.class) (ap (λ (r : Reading). r.policy) read) in
+    record {
+      value = c.unwrap_or.ensures ∙ bound-classes _ ∙ ap (λ (b : Bound). b.classes) right ∙ sym side.1;
+      status_after = c.status_of.ensures ∙ bound-status _ ∙ ap (λ (b : Bound). b.status) right ∙ sym side.0;
+    }

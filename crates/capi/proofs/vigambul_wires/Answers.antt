@@ -1,9 +1,12 @@
--- `capi::vigambul_wires` meets its contract: it is the recording of the activates on the wires.
-use mathlib.Core.Path.{ap}
-use Rattle.recordings.specs.Logged.{recorded}
-use Rattle.recordings.specs.declared.Recorded.{Recorded}
+-- `capi::vigambul_wires` meets its contract: it is the recording of the activates on the wires, its status and its count.
+use mathlib.Core.Path.{ap, ◌∙◌}
+use Rattle.recordings.specs.Logged.{Recorded, recorded}
+use Rattle.recordings.proofs.Logged.{counted-status, counted-count}
 use Rattle.capi.proofs.vigambul_wires.Goals as goal
 
-pub returns : goal.returns
+pub returns-clause-value : goal.returns-clause-value
 unfolding recorded
-returns c = record { value = ap (λ (r : Recorded). r.status) c.wires_of-at_wires.ensures.value; count_after = ap (λ (r : Recorded). r.count) c.wires_of-at_wires.ensures.value; wires_after = c.wires_of-at_wires.ensures.out_after }
+returns-clause-value c = c.status_of.ensures ∙ counted-status _ ∙ ap (λ (r : Recorded). r.status) c.wires_of-at_wires.ensures.value
+
+pub returns-clause-count_after : goal.returns-clause-count_after
+returns-clause-count_after c = c.unwrap_or.ensures ∙ counted-count _ ∙ ap (λ (r : Recorded). r.count) c.wires_of-at_wires.ensures.value

@@ -17,5 +17,5 @@ returns c =
     let p = a.p in
     let l = a.class in
     let named = c.is_class-named.ensures in
-    let set = ap member (c.seen_by-seen.ensures ∙ ap (λ (m : ℕ). set_of 16 (seen_by_any p m)) c.class_mask.ensures) in
+    let set = ap member (c.seen_by-seen.ensures ∙ ap (λ (m : ℕ). set_of 16 (seen_by_any p m)) (c.from.ensures ∙ c.class_mask.ensures)) in
     let same = same-answers p (is_class p l) a.trace.now a.log.now a.out.now (member (set_of 16 (seen_by_any p (class_mask l)))) (seen_by p l) (λ given class. seen-masked p given l class) in record { value = c.extract_seen.ensures.value ∙ ap₂ (λ (b : Bool) (f : ℕ → Bool). seen_answer p b f a.trace.now a.log.now a.out.now) named set ∙ same.0; out_after = c.extract_seen.ensures.out_after ∙ ap₂ (λ (b : Bool) (f : ℕ → Bool). seen_out p b f a.trace.now a.log.now a.out.now) named set ∙ same.1 }

@@ -1,17 +1,15 @@
--- `extract::put` meets its contract: its four stores are a run.
-use native.Mathlib.Omega.{arith}
-use lib.ListN.{length-set}
-use Rattle.basics.proofs.Stores.{four}
+-- `extract::put` meets its contract: four numbers that are copied at once are a run of stores.
+use Rattle.std.proofs.Common.{◌≡◌, ◌∙◌, ◌+◌, ◌-◌, ◌≤◌, length, append_assoc, arith, refl, rules, sym}
+use Rattle.std.proofs.lemmas.List.Edits.{paste_all, sets-eq}
+use Rattle.std.proofs.lemmas.Slice.{put_mid-paste}
 use Rattle.extract.proofs.put.Goals as goal
 
-pub bounds-out-at-2 : goal.bounds-out-at-2
-bounds-out-at-2 c = simp length-set (omega arith)
-
-pub bounds-out-at-3 : goal.bounds-out-at-3
-bounds-out-at-3 c = simp length-set (omega arith)
-
-pub bounds-out-at-4 : goal.bounds-out-at-4
-bounds-out-at-4 c = simp length-set (omega arith)
-
 pub returns : goal.returns
-returns c = four c.args.out.now c.args.at c.args.a c.args.b c.args.c c.args.d
+returns c =
+    let a = c.args in
+    let four : length a.line ≡ 4 = search rules in
+    let room : a.at + length a.line ≤ length a.out.now = omega arith in
+    put_mid-paste a.at (a.at + 4 - a.at) a.out.now c.copy_from_slice.new.self a.line (length a.line) c.copy_from_slice.ensures.after (omega arith) refl
+    ∙ paste_all a.out.now a.at a.line (length a.line) refl
+    ∙ sym (append_assoc _ a.line _)
+    ∙ sym (sets-eq a.line a.out.now a.at room)

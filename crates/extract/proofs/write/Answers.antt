@@ -12,10 +12,7 @@ use Rattle.extract.proofs.write.Goals as goal
 
 pub loop-i-init : goal.loop-i-init
 unfolding extract_of
-loop-i-init c = (refl, refl, refl, omega arith)
-
-pub overflow_mul-i : goal.overflow_mul-i
-overflow_mul-i c = omega arith
+loop-i-init c = (refl, refl)
 
 pub put_call-at-requires : goal.put_call-at-requires
 put_call-at-requires c =
@@ -24,19 +21,13 @@ put_call-at-requires c =
       omega (arith, line-fits (member a.seen) a.trace.now a.log.now c.loop-i.i (length a.out.now) (omega arith) c.requires.1),
     )
 
-pub loop-i-smaller : goal.loop-i-smaller
-loop-i-smaller c = omega arith
-
 pub loop-i-preserved : goal.loop-i-preserved
 loop-i-preserved c =
     let a = c.args in
     let more =
     line-more (member a.seen) a.trace.now a.log.now a.out.now c.loop-i.i (omega arith) c.requires.1 c.loop-i.invariant.0 c.loop-i.invariant.1 c.put_call-at.ensures.value c.put_call-at.ensures.out_after
     in
-    (more.0, more.1, c.put_call-at.auto.out ∙ c.loop-i.invariant.2, omega arith)
-
-pub shape_of-out : goal.shape_of-out
-shape_of-out c = c.loop-i.invariant.2
+    (more.0, more.1)
 
 pub returns : goal.returns
 returns c =

@@ -1,7 +1,6 @@
 -- `extract::write` meets its contract. The invariant: the extract of the first `i` calls stands at the start of `out`, up to `at`, and what is past it is as it was.
 use mathlib.Core.Path.{◌≡◌}
 use mathlib.Core.List.{◌++◌}
-use Prim.Native.Nat.{◌-◌, ◌≤◌}
 use lib.ListN.{length, take, drop}
 use Rattle.masks.specs.Mask.{member}
 use Rattle.extract.specs.Extract.{extract_of}
@@ -11,8 +10,3 @@ abbrev pub invariant-loop-i : goal.invariant-loop-i
 invariant-loop-i l =
     (l.at ≡ length (extract_of (member l.seen) (take l.i l.trace) l.log))
     × (l.out ≡ extract_of (member l.seen) (take l.i l.trace) l.log ++ drop l.at l.initial.out)
-    × (length l.out ≡ length l.initial.out)
-    × (l.i ≤ length l.trace)
-
-abbrev pub decreases-loop-i : goal.decreases-loop-i
-decreases-loop-i l = length l.trace - l.i

@@ -1,16 +1,11 @@
--- `flight::banks_in_range` meets its contract. The invariant: the test passes at every number below `bank`.
-use Rattle.basics.proofs.Loops.{passed_none, passed-all, goes-on, stops}
+-- `flight::banks_in_range` meets its contract: every bank's last activate passes the test.
+use Rattle.std.proofs.Common.{rules, tests}
+use Rattle.std.proofs.lemmas.Iterator.{YieldsList-from_slice}
+use Rattle.flight.specs.Flight.{activate_in_range}
+use Rattle.basics.proofs.Ranges.{all_entries}
 use Rattle.flight.proofs.banks_in_range.Goals as goal
-
-pub loop-bank-init : goal.loop-bank-init
-loop-bank-init c = passed_none _ 32
-
-pub returns-then-not-activate_in_range : goal.returns-then-not-activate_in_range
-returns-then-not-activate_in_range c = stops _ 32 c.loop-bank.bank c.loop-bank-test.true c.activate_in_range.ensures c.if-not-activate_in_range.true
-
-pub loop-bank-preserved : goal.loop-bank-preserved
-loop-bank-preserved c = goes-on _ 32 c.loop-bank.bank c.loop-bank.invariant c.loop-bank-test.true c.activate_in_range.ensures c.if-not-activate_in_range.false
 
 pub returns : goal.returns
 returns c =
-    passed-all _ 32 c.loop-bank.bank c.loop-bank.invariant c.loop-bank-test.false
+    all_entries (activate_in_range c.args.cycle) 32 c.args.banks.now (search rules) _ _ _ c.all.ensures.ran (YieldsList-from_slice _ c.iter.ensures.rest)
+    (λ x b q k. search (rules, tests))

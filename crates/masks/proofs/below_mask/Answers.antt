@@ -3,7 +3,6 @@
 use mathlib.Core.Path.{◌≡◌, sym, ap, ◌∙◌}
 use Prim.Native.Nat.{ℕ, ◌+◌, ◌-◌, ◌^◌, min}
 use native.Mathlib.Omega.{arith}
-use lib.Dec.{lit<}
 use Rattle.masks.specs.Mask.{below_mask}
 use Rattle.masks.specs.Tables.{below_masks}
 use Rattle.masks.proofs.Tables.{below-masks}
@@ -13,16 +12,10 @@ pub returns-then-number-eq0 : goal.returns-then-number-eq0
 unfolding below_mask
 returns-then-number-eq0 c = ap (λ (n : ℕ). 2 ^ min n 16 - 1) (sym c.if-number-eq0.true)
 
-pub returns-then-number-le16 : goal.returns-then-number-le16
-unfolding below_masks
-returns-then-number-le16 c =
-    let n = c.args.number in
-    let back : n - 1 + 1 ≡ n = omega (arith, c.if-number-eq0.false) in
-    below-masks.formula (n - 1) (omega (arith, c.if-number-eq0.false)) ∙ ap below_mask back
-
-pub returns-else-number-le16 : goal.returns-else-number-le16
+pub returns-else-number-eq0 : goal.returns-else-number-eq0
 unfolding below_masks below_mask
-returns-else-number-le16 c =
+returns-else-number-eq0 c = let e = c.min.ensures in
     let n = c.args.number in
-    let capped : 16 ≡ min n 16 = omega arith in
-    below-masks.formula 15 (lit< tt) ∙ ap (λ (k : ℕ). 2 ^ k - 1) capped
+    let k = c.min.result in
+    let back : min (k - 1 + 1) 16 ≡ min n 16 = omega (arith, c.if-number-eq0.false, c.min.ensures) in
+    below-masks.formula (k - 1) (omega (arith, c.if-number-eq0.false, c.min.ensures)) ∙ ap (λ (x : ℕ). 2 ^ x - 1) back

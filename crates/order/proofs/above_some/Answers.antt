@@ -17,7 +17,7 @@ use Rattle.order.proofs.above_some.Goals as goal
 use Rattle.order.proofs.above_some.Goals.{then-has, else-has}
 
 pub loop-k-init : goal.loop-k-init
-loop-k-init c = (omega arith, λ j l. member-zero j ∙ sym (some-none _), omega arith)
+loop-k-init c = (omega arith, λ j l. member-zero j ∙ sym (some-none _))
 
 pub loop-k-preserved : goal.loop-k-preserved
 loop-k-preserved c =
@@ -35,7 +35,6 @@ loop-k-preserved c =
                 ∙ ap₂ ◌||◌ (c.loop-k.invariant.1 j l)
                 (ap (λ (x : ℕ). member x j) w.above_set-found.ensures ∙ member-above rows k j l ∙ sym (ap (λ (b : Bool). b && strictly_in rows k j) inside))
                 ∙ sym (some-step (over rows set j) k),
-            omega arith,
           )
       | else-has w ↦
           let outside = sym c.has.ensures ∙ w.if-has.false in (
@@ -44,7 +43,6 @@ loop-k-preserved c =
                 ap (λ (x : ℕ). member x j) w.found-is
                 ∙ c.loop-k.invariant.1 j l
                 ∙ sym (some-step (over rows set j) k ∙ ap (λ (b : Bool). some k (over rows set j) || b && strictly_in rows k j) outside ∙ or-false _),
-            omega arith,
           )
     ]
 

@@ -2,7 +2,7 @@
 use mathlib.Core.Path.{◌≡◌}
 use mathlib.Core.Bool.{Bool, ◌&&◌}
 use mathlib.Core.List.{List}
-use Prim.Native.Nat.{ℕ, ◌-◌, ◌^◌, ◌≤◌, ◌<◌}
+use Prim.Native.Nat.{ℕ, ◌^◌, ◌<◌}
 use Rattle.basics.specs.Below.{some}
 use Rattle.masks.specs.Mask.{member}
 use Rattle.order.specs.Order.{strictly_in}
@@ -13,7 +13,4 @@ abbrev pub over : List ℕ → ℕ → ℕ → ℕ → Bool
 over rows set j h = member set h && strictly_in rows h j
 
 abbrev pub invariant-loop-k : goal.invariant-loop-k
-invariant-loop-k l = (l.found < 2 ^ 16) × ((j : ℕ) → j < 16 → member l.found j ≡ some l.k (over l.rows l.set j)) × (l.k ≤ 16)
-
-abbrev pub decreases-loop-k : goal.decreases-loop-k
-decreases-loop-k l = 16 - l.k
+invariant-loop-k l = (l.found < 2 ^ 16) × ((j : ℕ) → j < 16 → member l.found j ≡ some l.k (over l.rows l.set j))

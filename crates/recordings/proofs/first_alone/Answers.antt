@@ -1,79 +1,56 @@
--- `recordings::first_alone` meets its contract: 18 gives none; of two sound recordings it goes along both in step, and what it then finds is what the definition says.
+-- `recordings::first_alone` meets its contract: an unsound recording gives none; two sound ones it goes along in step, and what it then finds is what the definition says.
 use mathlib.Core.Path.{◌≡◌, sym, ap, ◌∙◌}
 use mathlib.Core.Bool.{true}
 use native.Mathlib.Omega.{arith}
-use Rattle.recordings.specs.Recording.{events_in, rises, due_fits, soundness, status_of}
-use Rattle.recordings.proofs.Recordings.{sound-both, wires-three, cores-two}
-use Rattle.recordings.proofs.Matching.{alone-unsound, alone-sound, odds, wires-longer, cores-longer, none_longer}
+use Rattle.std.specs.declared.option.Option.TheVariants.{Some}
+use Rattle.std.specs.declared.result.Result.TheVariants.{Ok}
+use Rattle.recordings.specs.Recording.{events_in, due_fits, soundness}
+use Rattle.recordings.proofs.Recordings.{ok-some, ok-none, sound-both, wires-three}
+use Rattle.recordings.proofs.Matching.{alone-unsound, odds, wires_longer, cores_longer, none_longer}
 use Rattle.recordings.proofs.first_alone.Goals as goal
-use Rattle.recordings.proofs.first_alone.Goals.{In-Sound}
+use Rattle.recordings.proofs.first_alone.Goals.{In_ok-ok}
 
 -- both recordings are sound there
-sound : (c : In-Sound) → status_of (soundness c.args.delay c.args.wires.now c.args.cores.now) ≡ 0
-unfolding status_of
-sound c = ap status_of (sym c.unsound-sound.ensures ∙ c.in-Sound.is)
+sound : (c : In_ok-ok) → soundness c.args.delay c.args.wires.now c.args.cores.now ≡ Ok tt
+sound c = sym c.unsound.ensures ∙ ok-some c.unsound.result _ (sym c.ok.ensures.value ∙ c.in_ok-ok.was)
 
-sound-due : (c : In-Sound) → due_fits c.args.delay c.args.wires.now ≡ true
+sound-due : (c : In_ok-ok) → due_fits c.args.delay c.args.wires.now ≡ true
 sound-due c =
     let a = c.args in
     (wires-three a.delay a.wires.now (sound-both a.delay a.wires.now a.cores.now (sound c)).0).2
 
-wires-up : (c : In-Sound) → rises c.args.wires.now ≡ true
-wires-up c =
+pub returns-in_err-ok : goal.returns-in_err-ok
+returns-in_err-ok c =
     let a = c.args in
-    (wires-three a.delay a.wires.now (sound-both a.delay a.wires.now a.cores.now (sound c)).0).1
-
-cores-up : (c : In-Sound) → rises c.args.cores.now ≡ true
-cores-up c =
-    let a = c.args in
-    (cores-two a.cores.now (sound-both a.delay a.wires.now a.cores.now (sound c)).1).1
-
-pub returns-in-WiresUnsound : goal.returns-in-WiresUnsound
-unfolding status_of
-returns-in-WiresUnsound c =
-    let a = c.args in
-    alone-unsound a.delay a.wires.now a.cores.now (ap status_of (sym c.unsound-sound.ensures ∙ c.in-WiresUnsound.is))
-
-pub returns-in-CoresUnsound : goal.returns-in-CoresUnsound
-unfolding status_of
-returns-in-CoresUnsound c =
-    let a = c.args in
-    alone-unsound a.delay a.wires.now a.cores.now (ap status_of (sym c.unsound-sound.ensures ∙ c.in-CoresUnsound.is))
+    let fault = ok-none c.unsound.result (sym c.ok.ensures.value ∙ c.in_err-ok.was) in
+    c.from_residual.ensures ∙ alone-unsound a.delay a.wires.now a.cores.now fault.0 (sym c.unsound.ensures ∙ fault.1)
 
 pub in_step-k-requires : goal.in_step-k-requires
-in_step-k-requires c = (sound-due (goal.at.in_step-k-requires c).In-Sound, omega (arith, c.least-n.ensures), omega (arith, c.least-n.ensures))
+in_step-k-requires c = (sound-due (goal.at.in_step-k-requires c).In_ok-ok, omega arith, omega arith)
 
 pub at_odds-requires : goal.at_odds-requires
-at_odds-requires c =
-    (sound-due (goal.at.at_odds-requires c).In-Sound, omega (arith, c.least-n.ensures, c.if-k-n.true), omega (arith, c.least-n.ensures, c.if-k-n.true))
+at_odds-requires c = (sound-due (goal.at.at_odds-requires c).In_ok-ok, omega arith, omega arith)
 
 pub returns-then-k-n : goal.returns-then-k-n
 unfolding events_in
 returns-then-k-n c =
     let a = c.args in
-    c.at_odds.ensures
-    ∙ odds a.delay a.wires.now a.cores.now (wires-up (goal.at.returns-then-k-n c).In-Sound) (cores-up (goal.at.returns-then-k-n c).In-Sound) _ _ (omega (arith, c.least-n.ensures)) (omega (arith, c.least-n.ensures)) c.in_step-k.ensures c.if-k-n.true
-    ∙ alone-sound a.delay a.wires.now a.cores.now (sound (goal.at.returns-then-k-n c).In-Sound)
+    ap Some c.at_odds.ensures ∙ odds a.delay a.wires.now a.cores.now (sound (goal.at.returns-then-k-n c).In_ok-ok) _ _ c.min-n.ensures c.in_step-k.ensures c.if-k-n.true
 
 pub returns-then-n-w : goal.returns-then-n-w
 unfolding events_in
 returns-then-n-w c =
     let a = c.args in
-    wires-longer a.delay a.wires.now a.cores.now (wires-up (goal.at.returns-then-n-w c).In-Sound) (cores-up (goal.at.returns-then-n-w c).In-Sound) _ _ c.least-n.ensures c.in_step-k.ensures c.if-k-n.false c.if-n-w.true
-    ∙ alone-sound a.delay a.wires.now a.cores.now (sound (goal.at.returns-then-n-w c).In-Sound)
+    wires_longer a.delay a.wires.now a.cores.now (sound (goal.at.returns-then-n-w c).In_ok-ok) _ _ c.min-n.ensures c.in_step-k.ensures c.if-k-n.false c.if-n-w.true
 
 pub returns-then-n-c : goal.returns-then-n-c
 unfolding events_in
 returns-then-n-c c =
     let a = c.args in
-    cores-longer a.delay a.wires.now a.cores.now (wires-up (goal.at.returns-then-n-c c).In-Sound) (cores-up (goal.at.returns-then-n-c c).In-Sound) _ _ c.least-n.ensures c.in_step-k.ensures c.if-k-n.false c.if-n-w.false
-    c.if-n-c.true
-    ∙ alone-sound a.delay a.wires.now a.cores.now (sound (goal.at.returns-then-n-c c).In-Sound)
+    cores_longer a.delay a.wires.now a.cores.now (sound (goal.at.returns-then-n-c c).In_ok-ok) _ _ c.min-n.ensures c.in_step-k.ensures c.if-k-n.false c.if-n-w.false c.if-n-c.true
 
 pub returns : goal.returns
 unfolding events_in
 returns c =
     let a = c.args in
-    none_longer a.delay a.wires.now a.cores.now (wires-up (goal.at.returns c).In-Sound) (cores-up (goal.at.returns c).In-Sound) _ _ c.least-n.ensures c.in_step-k.ensures c.if-k-n.false c.if-n-w.false
-    c.if-n-c.false
-    ∙ alone-sound a.delay a.wires.now a.cores.now (sound (goal.at.returns c).In-Sound)
+    none_longer a.delay a.wires.now a.cores.now (sound (goal.at.returns c).In_ok-ok) _ _ c.min-n.ensures c.in_step-k.ensures c.if-k-n.false c.if-n-w.false c.if-n-c.false

@@ -1,92 +1,81 @@
 -- `scheduler::call_at` meets its contract: what the word is picks the side of the definition, and each side is what the tick or the offer in place left.
 use mathlib.Core.Path.{◌≡◌, refl, sym, ap, ap₂, ◌∙◌, subst}
+use mathlib.Core.Bool.{true}
 use Prim.Native.Nat.{ℕ}
 use borrow.Author.Tests.{lt-ltb, le-ltb}
 use Rattle.requests.specs.Sizes.{last_cycle}
 use Rattle.requests.specs.Word.{command_number}
-use Rattle.queues.specs.Waiting.{queues_of}
 use Rattle.requests.specs.Trace.{call_of}
+use Rattle.state.specs.Range.{in_range}
 use Rattle.rules.specs.Call.{offer_on, bus_at, silent}
 use Rattle.rules.specs.Calls.{Answer, ticked, offered, answer_to}
-use Rattle.scheduler.specs.InPlace.{with_until, state_of, answer_of, answered_with, NoneYet, Continues}
-use Rattle.scheduler.specs.declared.ticking.Moment.{Moment}
-use Rattle.scheduler.specs.declared.ticking.Called.{Called}
+use Rattle.scheduler.specs.InPlace.{answer_of}
+use Rattle.scheduler.specs.declared.ticking.Line.{Line}
 use Rattle.queues.specs.declared.Queues.{Queues}
 use Rattle.state.specs.declared.State.{State}
-use Rattle.requests.specs.declared.Call.{Call}
+use Rattle.requests.specs.declared.Call.TheVariants.{Offer}
 use Rattle.rules.proofs.Range.{ranged, small-classes}
+use Rattle.rules.proofs.Calls.{answered-in-range}
 use Rattle.requests.proofs.Trace.{offer-word}
 use Rattle.rules.proofs.Call.{offer-is, tick_is, tick-late, called-tick, called-offer, called-malformed}
 use Rattle.wires.proofs.InPlace.{queued-by}
-use Rattle.scheduler.proofs.InPlace.{with-numbers, nothing_known}
+use Rattle.scheduler.proofs.InPlace.{nothing_known}
 use Rattle.scheduler.proofs.call_at.Goals as goal
-use Rattle.scheduler.proofs.call_at.Goals.{After-call_of-call, Start}
-
--- ---- the state before, and the definition's answer
-abbrev given : Start → State
-given s = state_of s.args.m s.args.slots.now s.args.heads.now s.args.lengths.now s.args.passed.now s.args.left.now s.args.pointers.now s.args.columns.now s.args.responses.now s.args.banks.now
-
-abbrev right : Start → Answer
-right s = answer_to s.args.p (given s) s.args.word
+use Rattle.scheduler.proofs.call_at.Goals.{After-answered-in-Offer}
 
 -- the state with other queues
 abbrev queued : State → Queues → State
 queued s q = record { cycle = s.cycle; classes = s.classes; queues = q; turns = s.turns; flight = s.flight }
 
--- what a call left, of a state's arrays and its own numbers
-abbrev left-by : State → Called → Answer
-left-by s r = answer_of r (with-numbers s r.moment)
-
--- a call that shows nothing leaves the numbers, but perhaps for `until`
-stays_by : (s : Start) (r : Called) (until : ℕ) {k : ℕ} → r ≡ answered_with (with_until s.args.m until) k → Continues s.args.p s.args.m r.moment
-stays_by s r until e =
-    subst (λ (x : Called). Continues s.args.p s.args.m x.moment) (sym e) (record { in_step = s.requires.in_step; same_bottom = refl; same_free = refl; same_count = refl })
-
--- where the state stays too, so does that
-none-by : (s : Start) (r : Called) {k : ℕ} → r ≡ answered_with s.args.m k → given s ≡ (right s).state → NoneYet s.args.p (right s).state r.moment
-none-by s r e same =
-    subst (λ (x : Called). NoneYet s.args.p (right s).state x.moment) (sym e) (subst (λ (u : State). NoneYet s.args.p u s.args.m) same s.requires.none_until)
-
--- the word, told apart, is the call
-told : (c : After-call_of-call) (call : Call) → c.call_of-call.result ≡ call → call_of c.args.word ≡ call
-told c call e = sym c.call_of-call.ensures ∙ e
-
--- no tick is left
-pub returns-then-m-ge-LAST_CYCLE : goal.returns-then-m-ge-LAST_CYCLE
+pub returns-then-s-ge-LAST_CYCLE-clause-answered : goal.returns-then-s-ge-LAST_CYCLE-clause-answered
 unfolding silent command_number
-returns-then-m-ge-LAST_CYCLE c =
-    let refused =
-    sym (ap ticked (tick-late c.args.p (given (goal.at.returns-then-m-ge-LAST_CYCLE c).Start) c.requires.ranges (le-ltb c.args.m.cycle last_cycle c.if-m-ge-LAST_CYCLE.true)))
-    ∙ sym (called-tick c.args.p (given (goal.at.returns-then-m-ge-LAST_CYCLE c).Start) c.args.word (told (goal.at.returns-then-m-ge-LAST_CYCLE c).After-call_of-call _ c.in-Tick.is))
-    in record { answered = ap (left-by (given (goal.at.returns-then-m-ge-LAST_CYCLE c).Start)) c.answered.ensures ∙ refused; next = stays_by (goal.at.returns-then-m-ge-LAST_CYCLE c).Start c.answered.result c.args.m.until c.answered.ensures; until = none-by (goal.at.returns-then-m-ge-LAST_CYCLE c).Start c.answered.result c.answered.ensures (ap (λ (a : Answer). a.state) refused) }
+returns-then-s-ge-LAST_CYCLE-clause-answered c =
+    let p = c.args.p.now in
+    let s = c.args.s.now in
+    ap (λ (r : Line). answer_of r s) c.answered.ensures
+    ∙ sym (ap ticked (tick-late p s c.requires.ranges (le-ltb s.cycle last_cycle c.if-s-ge-LAST_CYCLE.true)))
+    ∙ sym (called-tick p s c.args.word (sym c.call_of.ensures ∙ c.in-Tick.is))
 
-pub tick_in_place-requires : goal.tick_in_place-requires
-tick_in_place-requires c =
-    (c.requires, c.if-m-ge-LAST_CYCLE.false)
+pub returns-else-s-ge-LAST_CYCLE-clause-answered : goal.returns-else-s-ge-LAST_CYCLE-clause-answered
+returns-else-s-ge-LAST_CYCLE-clause-answered c =
+    let p = c.args.p.now in
+    let s = c.args.s.now in
+    c.tick_in_place.ensures.ticked
+    ∙ sym (ap ticked (tick_is p s c.requires.ranges (lt-ltb s.cycle last_cycle c.if-s-ge-LAST_CYCLE.false)))
+    ∙ sym (called-tick p s c.args.word (sym c.call_of.ensures ∙ c.in-Tick.is))
 
--- what the tick in place left is the tick
-pub returns-else-m-ge-LAST_CYCLE : goal.returns-else-m-ge-LAST_CYCLE
-returns-else-m-ge-LAST_CYCLE c =
-    let did =
-    sym (ap ticked (tick_is c.args.p (given (goal.at.returns-else-m-ge-LAST_CYCLE c).Start) c.requires.ranges (lt-ltb c.args.m.cycle last_cycle c.if-m-ge-LAST_CYCLE.false)))
-    ∙ sym (called-tick c.args.p (given (goal.at.returns-else-m-ge-LAST_CYCLE c).Start) c.args.word (told (goal.at.returns-else-m-ge-LAST_CYCLE c).After-call_of-call _ c.in-Tick.is))
-    in record { answered = c.tick_in_place.ensures.ticked ∙ did; next = c.tick_in_place.ensures.next; until = subst (λ (a : Answer). NoneYet c.args.p a.state c.tick_in_place.result.moment) did c.tick_in_place.ensures.until }
+pub returns-in-Malformed-clause-answered : goal.returns-in-Malformed-clause-answered
+returns-in-Malformed-clause-answered c =
+    ap (λ (r : Line). answer_of r c.args.s.now) c.answered-in-Malformed.ensures
+    ∙ sym (called-malformed c.args.p.now c.args.s.now c.args.word (sym c.call_of.ensures ∙ c.in-Malformed.is))
 
 -- what the offer in place left is the offer
-pub returns-in-Offer : goal.returns-in-Offer
+offer-left : (c : After-answered-in-Offer) → answer_of c.answered-in-Offer.result (queued c.args.s.now c.offer.new.queues) ≡ answer_to c.args.p.now c.args.s.now c.args.word
 unfolding offer_on
-returns-in-Offer c =
-    let did = c.offer-status.ensures in
-    let status = did.status (small-classes c.args.p (given (goal.at.returns-in-Offer c).Start) (ranged c.args.p (given (goal.at.returns-in-Offer c).Start) c.requires.ranges)) in
-    let answers = c.answered-in-Offer.ensures ∙ ap (λ (m : Moment). answered_with m c.offer-status.result) c.nothing_known.ensures in
-    let queues = did.queues c.args.passed.now ∙ queued-by c.args.m.classes c.args.p.timing.ranks (given (goal.at.returns-in-Offer c).Start).queues _ _ _ status (offer-word c.args.word _ (told (goal.at.returns-in-Offer c).After-call_of-call _ c.in-Offer.is)) in record {
-      answered = ap (left-by (queued (given (goal.at.returns-in-Offer c).Start) (queues_of c.offer-status.new.slots c.args.heads.now c.offer-status.new.lengths c.args.passed.now))) answers
-          ∙ ap₂ (λ (k : ℕ) (q : Queues). record { state = queued (given (goal.at.returns-in-Offer c).Start) q; status = k; command = 0; response = 0; turn = 0 }) status queues
-          ∙ sym (called-offer c.args.p (given (goal.at.returns-in-Offer c).Start) c.args.word _ (told (goal.at.returns-in-Offer c).After-call_of-call _ c.in-Offer.is) ∙ ap offered (offer-is c.args.p (given (goal.at.returns-in-Offer c).Start) c.requires.ranges _));
-      next = stays_by (goal.at.returns-in-Offer c).Start c.answered-in-Offer.result 0 answers;
-      until = nothing_known (bus_at c.args.p (right (goal.at.returns-in-Offer c).Start).state (right (goal.at.returns-in-Offer c).Start).state.turns) c.answered-in-Offer.result.moment.until (ap (λ (x : Called). x.moment.until) answers);
-    }
+offer-left c =
+    let p = c.args.p.now in
+    let s = c.args.s.now in
+    let told : call_of c.args.word ≡ Offer c.in-Offer.r = sym c.call_of.ensures ∙ c.in-Offer.is in
+    let did = c.offer.ensures in
+    let status = did.status (small-classes p s (ranged p s c.requires.ranges)) in
+    let queues = did.queued ∙ queued-by s.classes p.timing.ranks s.queues _ _ _ status (offer-word c.args.word _ told) in
+    ap (λ (r : Line). answer_of r (queued s c.offer.new.queues)) c.answered-in-Offer.ensures
+    ∙ ap₂ (λ (k : ℕ) (q : Queues). record { state = queued s q; status = k; command = 0; response = 0; turn = 0 }) status queues
+    ∙ sym (called-offer p s c.args.word _ told ∙ ap offered (offer-is p s c.requires.ranges _))
 
-pub returns-in-Malformed : goal.returns-in-Malformed
-returns-in-Malformed c =
-    let refused = sym (called-malformed c.args.p (given (goal.at.returns-in-Malformed c).Start) c.args.word (told (goal.at.returns-in-Malformed c).After-call_of-call _ c.in-Malformed.is)) in record { answered = ap (left-by (given (goal.at.returns-in-Malformed c).Start)) c.answered-in-Malformed.ensures ∙ refused; next = stays_by (goal.at.returns-in-Malformed c).Start c.answered-in-Malformed.result c.args.m.until c.answered-in-Malformed.ensures; until = none-by (goal.at.returns-in-Malformed c).Start c.answered-in-Malformed.result c.answered-in-Malformed.ensures (ap (λ (a : Answer). a.state) refused) }
+pub returns-in-Offer-clause-answered : goal.returns-in-Offer-clause-answered
+returns-in-Offer-clause-answered c = offer-left (goal.at.returns-in-Offer-clause-answered c).After-answered-in-Offer
+
+pub returns-in-Offer-clause-working : goal.returns-in-Offer-clause-working
+returns-in-Offer-clause-working c =
+    let p = c.args.p.now in
+    let s = c.args.s.now in
+    let left = queued s c.offer.new.queues in
+    let same : (answer_to p s c.args.word).state ≡ left = sym (ap (λ (a : Answer). a.state) (offer-left (goal.at.returns-in-Offer-clause-working c).After-answered-in-Offer)) in
+    let known = c.requires.known in
+    record {
+      ranges = subst (λ (x : State). in_range p x ≡ true) same (answered-in-range p s c.args.word c.requires.ranges);
+      in_step = c.requires.in_step;
+      none_until = nothing_known (bus_at p left left.turns) 0 refl;
+      known = record { fit = known.fit; bottom_is = known.bottom_is; free_is = known.free_is };
+    }

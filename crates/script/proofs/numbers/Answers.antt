@@ -24,7 +24,7 @@ unfolding read_of
 loop-at-init c =
     let a = c.args in
     let start : 0 ≡ a.from - a.from = omega arith in
-    record { onward = omega arith; read = subst (λ (i : ℕ). read_of a.text.now a.from 0 ≡ read_of a.text.now a.from i) start refl; within = omega arith }
+    record { read = subst (λ (i : ℕ). read_of a.text.now a.from 0 ≡ read_of a.text.now a.from i) start refl; within = omega arith }
 
 pub loop-at-preserved : goal.loop-at-preserved
 loop-at-preserved c =
@@ -34,17 +34,16 @@ loop-at-preserved c =
     let inv = c.loop-at.invariant in
     let before : Progress = record { list = c.loop-at.list; token = c.loop-at.token } in
     let i = at - a.from in
-    let there : at ≡ a.from + i = omega (arith, inv.onward) in
-    let next : suc i ≡ at + 1 - a.from = omega (arith, inv.onward) in
+    let there : at ≡ a.from + i = omega (arith, c.loop-at.auto.at) in
+    let next : suc i ≡ at + 1 - a.from = omega (arith, c.loop-at.auto.at) in
     record {
-      onward = omega (arith, inv.onward);
       read =
-          step_is text at before c.byte.ensures c.token_after-next.ensures c.with_token-list.ensures
+          step_is text at before c.byte.ensures c.token_after-next.ensures c.put.ensures
           ∙ ap (step text at) inv.read
           ∙ ap (λ (k : ℕ). step text k (read_of text a.from i)) there
           ∙ sym (read_more text a.from i)
           ∙ ap (read_of text a.from) next;
-      within = omega (arith, inv.onward, c.loop-at-test.true);
+      within = omega (arith, c.loop-at.auto.at, c.loop-at-test.true);
     }
 
 pub returns : goal.returns

@@ -5,10 +5,6 @@ use Rattle.script.proofs.numbers.Given as goal
 
 abbrev pub invariant-loop-at : goal.invariant-loop-at
 invariant-loop-at l = record {
-  onward : l.from ≤ l.at;
   read : (record { list = l.list; token = l.token }) ≡ read_of l.text l.from (l.at - l.from);
   within : l.at - l.from ≤ l.end - l.from;
 }
-
-abbrev pub decreases-loop-at : goal.decreases-loop-at
-decreases-loop-at l = l.end - l.at

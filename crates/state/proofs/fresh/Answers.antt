@@ -16,11 +16,11 @@ refused s = record { status = 13; state = s }
 pub returns-then-not-in_range : goal.returns-then-not-in_range
 unfolding fresh zero_state zeros
 returns-then-not-in_range c =
-    ap refused c.state_at_start-state.ensures
+    ap refused c.state_at_start.ensures
     ∙ sym (on-false (in_range c.args.p) (made (fresh_state c.args.p)) (refused zero_state) (sym c.in_range.ensures ∙ c.if-not-in_range.true))
 
 pub returns : goal.returns
 unfolding fresh fresh_state
 returns c =
-    ap made c.state_at_start-state-2.ensures
+    ap made c.state_at_start-2.ensures
     ∙ sym (on-true (in_range c.args.p) (made (fresh_state c.args.p)) (refused zero_state) (sym c.in_range.ensures ∙ c.if-not-in_range.false))

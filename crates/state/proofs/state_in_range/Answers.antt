@@ -1,12 +1,11 @@
 -- `state::state_in_range` meets its contract: the definition, with what the callees promise; that the state is shaped is what its types say.
-use mathlib.Core.Path.{◌≡◌, sym, ◌∙◌}
+use mathlib.Core.Path.{◌≡◌}
 use mathlib.Core.Bool.{true}
 use borrow.Author.Rules.{rules}
 use borrow.Author.Tests.{eq-eqb}
 use lib.ListN.{length}
-use Rattle.policy.specs.Policy.{covers_of, cover_count, cap}
 use Rattle.basics.proofs.Truth.{and_both}
-use Rattle.state.specs.Range.{shaped, turns_in_range, state_in_range}
+use Rattle.state.specs.Range.{shaped, state_in_range}
 use Rattle.state.proofs.state_in_range.Goals as goal
 use Rattle.state.proofs.state_in_range.Goals.{Start}
 
@@ -32,12 +31,7 @@ well-shaped c =
     (eq-eqb _ 32 responses))
     (eq-eqb _ 32 banks)
 
-pub returns-then-not-counts_in_range : goal.returns-then-not-counts_in_range
-unfolding state_in_range
-returns-then-not-counts_in_range c =
-    rw (well-shaped (goal.at.returns-then-not-counts_in_range c).Start, sym c.counts_in_range.ensures ∙ c.if-not-counts_in_range.true)
-
 pub returns : goal.returns
-unfolding state_in_range turns_in_range cover_count covers_of cap
+unfolding state_in_range
 returns c =
-    rw (well-shaped (goal.at.returns c).Start, sym c.counts_in_range.ensures ∙ c.if-not-counts_in_range.false, c.flight_in_range.ensures, c.turns_in_range.ensures, c.queues_in_range.ensures)
+    rw (well-shaped (goal.at.returns c).Start, c.flight_in_range.ensures, c.turns_in_range.ensures, c.queues_in_range.ensures, c.counts_in_range.ensures)

@@ -11,8 +11,10 @@ returns c =
     c.args.at
     c.args.n
     c.args.sign
+    _
     c.requires.by_index
     (omega arith)
+    c.to_be_bytes.ensures
     c.put_pair.ensures
     c.put_pair-2.ensures
     c.put_pair-3.ensures

@@ -14,11 +14,6 @@ use Rattle.turns.proofs.minimums_above.Goals.{then-strictly_in, else-strictly_in
 pub loop-j-init : goal.loop-j-init
 loop-j-init c = (summed-none _ 16, omega arith)
 
-pub overflow_add-total : goal.overflow_add-total
-overflow_add-total c =
-    let fits : Fits w32 (get_or c.args.minimums c.loop-j.j 0) = search rules in
-    omega arith
-
 pub loop-j-preserved : goal.loop-j-preserved
 loop-j-preserved c =
     let j = c.loop-j.j in

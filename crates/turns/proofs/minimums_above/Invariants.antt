@@ -1,7 +1,7 @@
 -- `turns::minimums_above` meets its contract. The invariant: the total is the sum below `j`, and each number added to it has 32 bits, so it does not wrap.
 use mathlib.Core.Bool.{cond}
 use mathlib.Core.List.{List}
-use Prim.Native.Nat.{ℕ, ◌-◌, ◌*◌, ◌≤◌}
+use Prim.Native.Nat.{ℕ, ◌*◌, ◌≤◌}
 use lib.ListN.{get_or}
 use Rattle.order.specs.Order.{strictly_in}
 use Rattle.basics.proofs.Loops.{Summed}
@@ -13,6 +13,3 @@ part rows minimums i j = cond (strictly_in rows i j) (get_or minimums j 0) 0
 
 abbrev pub invariant-loop-j : goal.invariant-loop-j
 invariant-loop-j l = Summed (part l.rows l.minimums l.class) 16 l.total l.j × (l.total ≤ l.j * 4294967296)
-
-abbrev pub decreases-loop-j : goal.decreases-loop-j
-decreases-loop-j l = 16 - l.j

@@ -20,20 +20,20 @@ right c = sym c.bank_kind_rank_fit.ensures ∙ c.if-not-bank_kind_rank_fit.false
 
 pub returns-then-not-class_fits : goal.returns-then-not-class_fits
 unfolding offer_status
-returns-then-not-class_fits c = record { status = λ classes. rw (sym c.class_fits.ensures ∙ c.if-not-class_fits.true); queues = λ passed. refl }
+returns-then-not-class_fits c = record { status = λ classes. rw (sym c.class_fits.ensures ∙ c.if-not-class_fits.true); queued = refl }
 
 -- no such class comes so far, where classes are small
 pub returns-then-class-ge16 : goal.returns-then-class-ge16
-returns-then-class-ge16 c = record { status = λ classes. absurd (omega (arith, small (goal.at.returns-then-class-ge16 c).Else-not-class_fits classes, c.if-class-ge16.true)); queues = λ passed. refl }
+returns-then-class-ge16 c = record { status = λ classes. absurd (omega (arith, small (goal.at.returns-then-class-ge16 c).Else-not-class_fits classes, c.if-class-ge16.true)); queued = refl }
 
 pub returns-then-not-bank_kind_rank_fit : goal.returns-then-not-bank_kind_rank_fit
 unfolding offer_status
-returns-then-not-bank_kind_rank_fit c = record { status = λ classes. rw (fits (goal.at.returns-then-not-bank_kind_rank_fit c).Else-not-class_fits, sym c.bank_kind_rank_fit.ensures ∙ c.if-not-bank_kind_rank_fit.true); queues = λ passed. refl }
+returns-then-not-bank_kind_rank_fit c = record { status = λ classes. rw (fits (goal.at.returns-then-not-bank_kind_rank_fit c).Else-not-class_fits, sym c.bank_kind_rank_fit.ensures ∙ c.if-not-bank_kind_rank_fit.true); queued = refl }
 
-pub returns-then-lengths-class-ge-RING_PLACES : goal.returns-then-lengths-class-ge-RING_PLACES
+pub returns-then-queues-class-ge-RING_PLACES : goal.returns-then-queues-class-ge-RING_PLACES
 unfolding offer_status
-returns-then-lengths-class-ge-RING_PLACES c = record { status = λ classes. rw (fits (goal.at.returns-then-lengths-class-ge-RING_PLACES c).Else-not-class_fits, right (goal.at.returns-then-lengths-class-ge-RING_PLACES c).Else-not-bank_kind_rank_fit, le-ltb _ 8 c.if-lengths-class-ge-RING_PLACES.true); queues = λ passed. refl }
+returns-then-queues-class-ge-RING_PLACES c = record { status = λ classes. rw (fits (goal.at.returns-then-queues-class-ge-RING_PLACES c).Else-not-class_fits, right (goal.at.returns-then-queues-class-ge-RING_PLACES c).Else-not-bank_kind_rank_fit, le-ltb _ 8 c.if-queues-class-ge-RING_PLACES.true); queued = refl }
 
 pub returns : goal.returns
 unfolding offer_status
-returns c = record { status = λ classes. rw (fits (goal.at.returns c).Else-not-class_fits, right (goal.at.returns c).Else-not-bank_kind_rank_fit, lt-ltb _ 8 c.if-lengths-class-ge-RING_PLACES.false); queues = c.enqueue.ensures }
+returns c = record { status = λ classes. rw (fits (goal.at.returns c).Else-not-class_fits, right (goal.at.returns c).Else-not-bank_kind_rank_fit, lt-ltb _ 8 c.if-queues-class-ge-RING_PLACES.false); queued = c.enqueue.ensures }

@@ -18,25 +18,28 @@ use Rattle.scheduler.proofs.lookahead.reaches.Goals.{After-nth-class, Start}
 
 -- what the function was lent
 abbrev ahead_of : Start → Ahead
-ahead_of s = looking_ahead s.args.rows.now s.args.covers.now s.args.left.now s.args.pointers.now
+ahead_of s = looking_ahead s.args.p.now.rows s.args.p.now.covers s.args.left.now s.args.pointers.now
+
+abbrev ahead-at : After-nth-class → Ahead
+ahead-at c = looking_ahead c.args.p.now.rows c.args.p.now.covers c.args.left.now c.args.pointers.now
 
 -- after a turn of the loop: it went on from a class that is not the owner, to the cover that the class's pointer names
 apart : (c : After-nth-class) → eqb c.loop-class.class c.args.owner ≡ false
 apart c = ne_eqb c.loop-class.class c.args.owner c.loop-class-test.true
 
-on : (c : After-nth-class) → goes_on (ahead_of c.before.before.before.before.before.before.before.before.before.before.before.before.before.before.before.before) c.args.owner c.loop-class.class ≡ true
+on : (c : After-nth-class) → goes_on (ahead-at c) c.args.owner c.loop-class.class ≡ true
 unfolding goes_on flows_in
 on c =
     sym (ap (λ (b : Bool). b && eqb (get_or c.args.left.now c.loop-class.class 0) 0) c.has-flows.ensures)
     ∙ c.if-not-flows-spent.false
 
-next : (c : After-nth-class) → c.nth-class.result ≡ named c.args.covers.now c.args.pointers.now c.loop-class.class
+next : (c : After-nth-class) → c.nth-class.result ≡ named c.args.p.now.covers c.args.pointers.now c.loop-class.class
 unfolding named moved_pointer
-next c = c.nth-class.ensures ∙ ap (nth (get_or c.args.covers.now c.loop-class.class 0)) c.moved-pointer.ensures
+next c = c.nth-class.ensures ∙ ap (nth (get_or c.args.p.now.covers c.loop-class.class 0)) c.moved-pointer.ensures
 
-covered : (c : After-nth-class) → member (get_or c.args.covers.now c.loop-class.class 0) (named c.args.covers.now c.args.pointers.now c.loop-class.class) ≡ true
+covered : (c : After-nth-class) → member (get_or c.args.p.now.covers c.loop-class.class 0) (named c.args.p.now.covers c.args.pointers.now c.loop-class.class) ≡ true
 covered c =
-    on-covers (ahead_of c.before.before.before.before.before.before.before.before.before.before.before.before.before.before.before.before) c.args.owner c.requires.0 c.loop-class.class (apart c) (on c)
+    on-covers (ahead-at c) c.args.owner c.requires.0 c.loop-class.class (apart c) (on c)
 
 pub loop-class-init : goal.loop-class-init
 loop-class-init c = (c.requires.1, refl)
@@ -58,10 +61,10 @@ unfolding above_in
 loop-class-preserved c =
     let a = c.args in
     let class = c.loop-class.class in
-    let then = named a.covers.now a.pointers.now class in
-    let below : above_in a.rows.now then ≤ 15 = omega (arith, c.requires.0.falls class _ (covered (goal.at.loop-class-preserved c).After-nth-class), count-le (strictly_in a.rows.now class) 16) in
+    let then = named a.p.now.covers a.pointers.now class in
+    let below : above_in a.p.now.rows then ≤ 15 = omega (arith, c.requires.0.falls class _ (covered (goal.at.loop-class-preserved c).After-nth-class), count-le (strictly_in a.p.now.rows class) 16) in
     rw (next (goal.at.loop-class-preserved c).After-nth-class) (
-      member-small (get_or a.covers.now class 0) then (c.requires.0.sets class) (covered (goal.at.loop-class-preserved c).After-nth-class),
+      member-small (get_or a.p.now.covers class 0) then (c.requires.0.sets class) (covered (goal.at.loop-class-preserved c).After-nth-class),
       c.loop-class.invariant.1
           ∙ reach-on (ahead_of (goal.at.loop-class-preserved c).Start) a.owner 15 class (apart (goal.at.loop-class-preserved c).After-nth-class) (on (goal.at.loop-class-preserved c).After-nth-class)
           ∙ reach-enough (ahead_of (goal.at.loop-class-preserved c).Start) a.owner c.requires.0 15 then below,

@@ -7,7 +7,7 @@ use Rattle.scheduler.proofs.lookahead.reaches.Given as goal
 
 abbrev pub invariant-loop-class : goal.invariant-loop-class
 invariant-loop-class l =
-    (l.class < 16) × (reaches 16 (looking_ahead l.rows l.covers l.left l.pointers) l.owner l.from ≡ reaches 16 (looking_ahead l.rows l.covers l.left l.pointers) l.owner l.class)
+    (l.class < 16) × (reaches 16 (looking_ahead l.p.rows l.p.covers l.left l.pointers) l.owner l.from ≡ reaches 16 (looking_ahead l.p.rows l.p.covers l.left l.pointers) l.owner l.class)
 
 abbrev pub decreases-loop-class : goal.decreases-loop-class
-decreases-loop-class l = above_in l.rows l.class
+decreases-loop-class l = above_in l.p.rows l.class

@@ -20,8 +20,8 @@ tried-again before r = let same : before + 1 + r.tried ≡ before + (1 + r.tried
 pub ascend-try_class-requires : goal.ascend-try_class-requires
 unfolding named moved_pointer
 ascend-try_class-requires t c =
-    let rows = c.args.rows.now in
-    let covers = c.args.covers.now in
+    let rows = c.args.p.now.rows in
+    let covers = c.args.p.now.covers in
     let pointers = c.args.pointers.now in
     let class = c.args.class in
     let order = c.requires.0 in
@@ -34,7 +34,7 @@ ascend-try_class-requires t c =
 pub ascend-returns : goal.ascend-returns
 unfolding passed_at named moved_pointer
 ascend-returns t c =
-    let covers = c.args.covers.now in
+    let covers = c.args.p.now.covers in
     let pointers = c.args.pointers.now in
     let class = c.args.class in
     let all = candidates covers c.args.lengths.now c.args.left.now in
@@ -47,31 +47,31 @@ ascend-returns t c =
 pub try_class-returns-then-takes : goal.try_class-returns-then-takes
 unfolding takes ends_at
 try_class-returns-then-takes t c =
-    let all = candidates c.args.covers.now c.args.lengths.now c.args.left.now in
+    let all = candidates c.args.p.now.covers c.args.lengths.now c.args.left.now in
     let here : takes all c.args.class ≡ true = sym c.takes.ensures ∙ c.if-takes.true in
     sym (ap (also_tried c.args.tried.now) (try-takes all 16 c.args.pointers.now c.args.class here))
 
 pub try_class-ascend-requires : goal.try_class-ascend-requires
 unfolding takes
 try_class-ascend-requires t c =
-    let all = candidates c.args.covers.now c.args.lengths.now c.args.left.now in
+    let all = candidates c.args.p.now.covers c.args.lengths.now c.args.left.now in
     let on : takes all c.args.class ≡ false = sym c.takes.ensures ∙ c.if-takes.false in
     (omega (arith, c.decreases), (c.requires.0, c.requires.1, c.requires.2, omega (arith, c.requires.3), passes-on all c.args.class on))
 
 pub try_class-returns : goal.try_class-returns
 unfolding takes above_in
 try_class-returns t c =
-    let covers = c.args.covers.now in
+    let covers = c.args.p.now.covers in
     let pointers = c.args.pointers.now in
     let class = c.args.class in
     let all = candidates covers c.args.lengths.now c.args.left.now in
     let on : takes all class ≡ false = sym c.takes.ensures ∙ c.if-takes.false in
-    let below : above_in c.args.rows.now (named covers pointers class) ≤ 15 =
-    omega (arith, fewer-above all c.args.rows.now c.requires.0 pointers class on, count-le (strictly_in c.args.rows.now class) 16)
+    let below : above_in c.args.p.now.rows (named covers pointers class) ≤ 15 =
+    omega (arith, fewer-above all c.args.p.now.rows c.requires.0 pointers class on, count-le (strictly_in c.args.p.now.rows class) 16)
     in
     let onward = try_class 15 all (passed_at covers pointers class) (named covers pointers class) in
     let also : Reached → Reached = also_tried c.args.tried.now in
     c.ascend.ensures
-    ∙ ap (also_tried (c.args.tried.now + 1)) (sym (enough all c.args.rows.now c.requires.0 15 (passed_at covers pointers class) (named covers pointers class) below))
+    ∙ ap (also_tried (c.args.tried.now + 1)) (sym (enough all c.args.p.now.rows c.requires.0 15 (passed_at covers pointers class) (named covers pointers class) below))
     ∙ tried-again c.args.tried.now onward
     ∙ sym (ap also (try-passes all 15 pointers class on))

@@ -5,7 +5,7 @@ use Rattle.order.specs.Order.{above_in}
 use Rattle.scheduler.proofs.traversal.+ascend_try_class.Given as goal
 
 abbrev pub decreases-ascend : goal.decreases-ascend
-decreases-ascend l = 2 * above_in l.rows.now l.class
+decreases-ascend l = 2 * above_in l.p.now.rows l.class
 
 abbrev pub decreases-try_class : goal.decreases-try_class
-decreases-try_class l = 2 * above_in l.rows.now l.class + 1
+decreases-try_class l = 2 * above_in l.p.now.rows l.class + 1

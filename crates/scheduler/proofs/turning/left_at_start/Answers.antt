@@ -6,11 +6,11 @@ use Rattle.rules.specs.Step.{left_at_start}
 use Rattle.scheduler.proofs.turning.left_at_start.Goals as goal
 
 pub nonzero_rem-number : goal.nonzero_rem-number
-nonzero_rem-number c = omega (arith, (policy-laws c.args.p c.requires.0).capped.epoch_bounds.0)
+nonzero_rem-number c = omega (arith, (policy-laws c.args.p.now c.requires).capped.epoch_bounds.0)
 
 pub returns-then-number-p-eq0 : goal.returns-then-number-p-eq0
 unfolding left_at_start
-returns-then-number-p-eq0 c = rw (eq-eqb _ 0 c.if-number-p-eq0.true, c.requires.1)
+returns-then-number-p-eq0 c = rw (eq-eqb _ 0 c.if-number-p-eq0.true)
 
 pub returns-else-number-p-eq0 : goal.returns-else-number-p-eq0
 unfolding left_at_start

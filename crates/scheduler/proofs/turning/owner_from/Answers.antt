@@ -14,7 +14,7 @@ returns-then-taken c = rw c.if-taken.true
 pub try_class-requires : goal.try_class-requires
 unfolding above_in
 try_class-requires c =
-    (c.requires.0, c.requires.1, c.requires.2, omega (arith, c.requires.3, count-le (strictly_in c.args.rows.now c.args.from) 16))
+    (c.requires.0, c.requires.1, c.requires.2, omega (arith, c.requires.3, count-le (strictly_in c.args.p.now.rows c.args.from) 16))
 
 none_before : (before : ℕ) (r : Reached) → before ≡ 0 → also_tried before r ≡ r
 none_before before r none = let same : before + r.tried ≡ r.tried = omega (arith, none) in ap (λ (n : ℕ). record { owner = r.owner; pointers = r.pointers; tried = n }) same

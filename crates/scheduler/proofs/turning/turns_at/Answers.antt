@@ -8,30 +8,22 @@ use Rattle.basics.proofs.Truth.{on-true, on-false}
 use Rattle.policy.proofs.Laws.{policy-laws}
 use Rattle.rules.specs.Step.{turn_starts, turn_number, turns_at}
 use Rattle.scheduler.proofs.turning.turns_at.Goals as goal
-use Rattle.scheduler.proofs.turning.turns_at.Goals.{Else-m-ne0, Then-m-ne0}
 
--- whether a turn starts, by the offset
-none : (c : Then-m-ne0) → turn_starts c.args.p c.args.m.cycle ≡ false
-unfolding turn_starts
-none c = ne_eqb _ 0 (λ z. c.if-m-ne0.true (c.requires.1 ∙ z))
+pub returns-then-offset-ne0 : goal.returns-then-offset-ne0
+unfolding turns_at turn_starts
+returns-then-offset-ne0 c =
+    let none : turn_starts c.args.p.now c.args.cycle ≡ false = ne_eqb _ 0 (λ z. c.if-offset-ne0.true (c.requires.1 ∙ z)) in
+    sym (on-false (turn_starts c.args.p.now c.args.cycle) _ _ none)
 
-one : (c : Else-m-ne0) → turn_starts c.args.p c.args.m.cycle ≡ true
-unfolding turn_starts
-one c = eq-eqb _ 0 (sym c.requires.1 ∙ c.if-m-ne0.false)
-
-pub returns-then-m-ne0 : goal.returns-then-m-ne0
-unfolding turns_at
-returns-then-m-ne0 c = sym (on-false (turn_starts c.args.p c.args.m.cycle) _ _ (none (goal.at.returns-then-m-ne0 c).Then-m-ne0))
-
-pub nonzero_div-number : goal.nonzero_div-number
-nonzero_div-number c =
-    omega (arith, (policy-laws c.args.p c.requires.0.fit).timed.turn_bounds.0)
+pub nonzero_div-cycle : goal.nonzero_div-cycle
+nonzero_div-cycle c = omega (arith, (policy-laws c.args.p.now c.requires.0.fit).timed.turn_bounds.0)
 
 pub start_turn-requires : goal.start_turn-requires
 start_turn-requires c =
-    (c.requires.0, omega (arith, div-le_self c.args.m.cycle c.args.p.timing.turn, c.requires.2), c.requires.3, c.requires.4)
+    (c.requires.0, omega (arith, div-le_self c.args.cycle c.args.p.now.timing.turn, c.requires.2), c.requires.3, c.requires.4)
 
 pub returns : goal.returns
-unfolding turns_at turn_number
+unfolding turns_at turn_starts turn_number
 returns c =
-    c.start_turn.ensures ∙ sym (on-true (turn_starts c.args.p c.args.m.cycle) _ _ (one (goal.at.returns c).Else-m-ne0))
+    let one : turn_starts c.args.p.now c.args.cycle ≡ true = eq-eqb _ 0 (sym c.requires.1 ∙ c.if-offset-ne0.false) in
+    c.start_turn.ensures ∙ sym (on-true (turn_starts c.args.p.now c.args.cycle) _ _ one)

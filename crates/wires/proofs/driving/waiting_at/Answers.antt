@@ -1,16 +1,9 @@
--- `wires::driving::waiting_at` meets its contract: a place of a class's ring is one of the 128.
-use Rattle.std.proofs.Common.{arith}
-use Rattle.queues.specs.Waiting.{place}
+-- `wires::driving::waiting_at` meets its contract: the place is one of the class's ring.
+use Rattle.queues.specs.Waiting.{waiting_at, head_of}
 use Rattle.queues.proofs.Waiting.{of-class}
+use Rattle.std.proofs.Common.{get_or}
 use Rattle.wires.proofs.driving.waiting_at.Goals as goal
 
-pub offset_bounds-slots-place : goal.offset_bounds-slots-place
-unfolding place
-offset_bounds-slots-place c = omega (arith, c.place-place.ensures)
-
-pub bounds-slots-place : goal.bounds-slots-place
-unfolding place
-bounds-slots-place c = omega (arith, c.place-place.ensures)
-
 pub returns : goal.returns
-returns c = rw (c.place-place.ensures, of-class c.args.class c.args.head c.args.k c.requires)
+unfolding waiting_at head_of
+returns c = rw (c.place.ensures.value, of-class c.args.class (get_or c.args.queues.now.heads c.args.class 0) c.args.k c.requires)

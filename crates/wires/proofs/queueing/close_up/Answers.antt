@@ -1,5 +1,5 @@
 -- `wires::queueing::close_up` meets its contract. The invariant: closing up the `older` requests that are left comes to closing up all.
-use Rattle.std.proofs.Common.{◌≡◌, ℕ, ◌-◌, get_or, set, sym, refl, ap, ◌∙◌, ap₂, arith}
+use Rattle.std.proofs.Common.{◌≡◌, ℕ, ◌+◌, ◌-◌, get_or, set, sym, refl, ap, ◌∙◌, ap₂, arith}
 use Rattle.queues.specs.Waiting.{place}
 use Rattle.queues.proofs.Waiting.{of-class}
 use Rattle.rules.specs.Queue.{closed_up}
@@ -9,30 +9,15 @@ use Rattle.wires.proofs.queueing.close_up.Goals as goal
 pub loop-older-init : goal.loop-older-init
 loop-older-init c = refl
 
-pub offset_bounds-slots-from : goal.offset_bounds-slots-from
-unfolding place
-offset_bounds-slots-from c = omega (arith, c.place-from.ensures)
-
-pub bounds-slots-from : goal.bounds-slots-from
-unfolding place
-bounds-slots-from c = omega (arith, c.place-from.ensures)
-
-pub offset_bounds-slots-to : goal.offset_bounds-slots-to
-unfolding place
-offset_bounds-slots-to c = omega (arith, c.place-to.ensures)
-
-pub bounds-slots-to : goal.bounds-slots-to
-unfolding place
-bounds-slots-to c = omega (arith, c.place-to.ensures)
-
 pub loop-older-preserved : goal.loop-older-preserved
 loop-older-preserved c =
     let class = c.args.class in
     let head = c.args.head in
     let older = c.loop-older.older in
     let slots = c.loop-older.slots in
-    let from = c.place-from.ensures ∙ of-class class head (older - 1) c.requires in
-    let to = c.place-to.ensures ∙ of-class class head older c.requires in
+    let from = c.place-from.ensures.value ∙ of-class class head (older - 1) c.requires in
+    let moved : older - 1 + 1 ≡ older = omega (arith, c.loop-older-test.true) in
+    let to = c.place-to.ensures.value ∙ of-class class head (older - 1 + 1) c.requires ∙ ap (place class head) moved in
     ap₂ (λ (i j : ℕ). closed_up (set slots i (get_or slots j 0)) class head (older - 1)) to from ∙ sym (closed-step class head older slots c.loop-older-test.true) ∙ c.loop-older.invariant
 
 pub returns : goal.returns

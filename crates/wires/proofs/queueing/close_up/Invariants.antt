@@ -5,6 +5,3 @@ use Rattle.wires.proofs.queueing.close_up.Given as goal
 
 abbrev pub invariant-loop-older : goal.invariant-loop-older
 invariant-loop-older l = closed_up l.slots l.class l.head l.older ≡ closed_up l.initial.slots l.class l.head l.k
-
-abbrev pub decreases-loop-older : goal.decreases-loop-older
-decreases-loop-older l = l.older

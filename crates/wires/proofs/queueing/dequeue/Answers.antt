@@ -10,7 +10,6 @@ passed_after-requires c = c.requires.2
 pub returns : goal.returns
 unfolding dequeue head_of length_of passed_of
 returns c =
-    let a = c.args in
-    let head = get_or a.heads.now a.class 0 in
+    let head = get_or c.args.queues.now.heads c.args.class 0 in
     let next : (head % 8 + 1) % 8 ≡ (head + 1) % 8 = omega arith in
     rw (c.close_up.ensures, c.passed_after.ensures, next)

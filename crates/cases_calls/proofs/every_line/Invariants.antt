@@ -1,6 +1,0 @@
--- Each line ends past where it starts.
-use Rattle.std.proofs.Common.{length, ◌-◌}
-use Rattle.cases_calls.proofs.every_line.Given as goal
-
-abbrev pub decreases-loop-l : goal.decreases-loop-l
-decreases-loop-l g l = length l.text - l.l.next

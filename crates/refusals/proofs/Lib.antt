@@ -1,0 +1,1 @@
+-- Nothing to prove but the functions' contracts.

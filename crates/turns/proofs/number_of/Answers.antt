@@ -1,7 +1,0 @@
--- `turns::number_of` meets its contract: past the list's end stands 0.
-use borrow.Author.Rules.{rules}
-use Rattle.basics.proofs.Stores.{past_end}
-use Rattle.turns.proofs.number_of.Goals as goal
-
-pub returns-else-class-lt16 : goal.returns-else-class-lt16
-returns-else-class-lt16 c = past_end c.args.numbers c.args.class (search rules) c.if-class-lt16.false

@@ -93,5 +93,13 @@ fn one_case(rt: &impl Print, case: &Case) -> io::Result<()> {
 }
 
 fn main(rt: HostRuntime) -> io::Result<()> {
-    script::each_case(&mut rt.stdin(), |case| one_case(&rt, case))
+    let mut buffer = [0u8; 65536];
+    let count = script::read(&mut rt.stdin(), &mut buffer)?;
+    let text = &buffer[..count];
+    for line in script::lines(text) {
+        if let Some(case) = script::case_of(text, line) {
+            one_case(&rt, &case)?;
+        }
+    }
+    Ok(())
 }

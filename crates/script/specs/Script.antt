@@ -1,6 +1,8 @@
 -- The script of a test program, said of its bytes: where its lines start, and which numbers they hold. (No paper of the project speaks of it; crates/cases_calls/stdin has the form in words.)
 use Rattle.std.specs.Prelude.{Bool, cond, not, ◌&&◌, Option, None, Some, List, ℕ, zero, suc, ◌+◌, ◌*◌, ◌-◌, ◌%◌, ltb, leb, eqb, length, get_or, set, replicate}
+use Rattle.std.specs.Borrow.{Bor}
 use Rattle.basics.specs.Below.{first}
+use Rattle.script.specs.declared.Case.{Case}
 use Rattle.script.specs.declared.Line.{Line}
 use Rattle.script.specs.declared.List.{List as Numbers}
 use Rattle.script.specs.declared.Token.{Token}
@@ -101,3 +103,9 @@ read_of text from (suc k) =
 -- the numbers from a place to the end of its line
 unfoldable pub numbers_of : List ℕ → ℕ → Numbers
 numbers_of text from = (read_of text from (line_end text from - from)).list
+
+-- ---- cases
+
+-- the case on a line: the text, the line, and the numbers of that line. Where the first letter is not a small one (a is 97), as of a comment, an empty line and what later lines go by, there is none.
+unfoldable pub case_of : Bor (List ℕ) → Line → Option Case
+case_of text l = cond (ltb l.letter 97) None (Some (record { text = text; line = l; own = numbers_of text.now l.numbers }))

@@ -7,7 +7,7 @@ ghost use Rattle.std.specs.Iterator.{at_most};
 ghost use Rattle.std.specs.Option.{unwrap_or};
 ghost use Rattle.std.specs.Simd.{first_chunks};
 ghost use Rattle.basics.specs.Below.{list_of};
-ghost use Rattle.script.specs.Script.{stands_at, after, no_line, next_line, line_after, digit_of, grown, token_after, pushed, with_token, numbers_of};
+ghost use Rattle.script.specs.Script.{stands_at, after, no_line, next_line, line_after, digit_of, grown, token_after, pushed, with_token, numbers_of, case_of};
 
 use std::fmt::Display;
 use std::io::Read;
@@ -267,23 +267,16 @@ pub fn read(input: &mut impl Read, text: &mut [u8]) -> io::Result<usize>
     Ok(count)
 }
 
-// Reads a script, and calls a function with each of its cases, until one call fails. A comment, an empty line and what later lines go by are none.
-pub fn each_case<F: FnMut(&Case) -> io::Result<()>>(
-    input: &mut impl Read,
-    mut f: F,
-) -> io::Result<()>
-    requires { F.IsAlwaysCallable f }
+// The case that stands on a line. A comment, an empty line and what later lines go by are none.
+#[tactic(auto, unfolding(crate::specs::Script::case_of))]
+pub fn case_of(text: &[u8], line: Line) -> Option<Case<'_>>
+    ensures { result ≡ case_of text.entry line }
 {
-    let mut buffer = [0u8; 65536];
-    let count = read(input, &mut buffer)?;
-    let text = &buffer[..count];
-    for line in lines(text) {
-        if line.letter >= b'a' {
-            let own = numbers(text, line.numbers);
-            f(&Case { text, line, own })?;
-        }
+    if line.letter < b'a' {
+        return None;
     }
-    Ok(())
+    let own = numbers(text, line.numbers);
+    Some(Case { text, line, own })
 }
 
 // Prints a number after a space.

@@ -51,6 +51,9 @@ sum-requires-clause-fits c =
 
 pub returns : goal.returns
 returns c =
+    let summed : c.sum.result ≡ minimums_sum c.args.minimums =
     sum_by_from_yields_List (λ (x : ℕ). x) c.args.minimums c.map.result c.sum.result c.sum.ensures.ran
     (YieldsList-from_map _ (λ (x : ℕ). x) (YieldsList-at c.map.ensures.source (YieldsList-from_slice c.args.minimums (cc))) c.map.ensures.closure (λ x r q k. search (rules, tests)))
     ∙ sixteen c.args.minimums (search rules)
+    in
+    grind (arith, summed)

@@ -48,7 +48,7 @@ fn right_word(classes: usize, ranks: u32, class: usize, word: u32) -> bool
     words::sound_word(classes, ranks, word) & (of == class)
 }
 
-// A class's queue is in range: its length, its head, every waiting request in its ring, and how many have passed its oldest.
+// A class's queue is in range: its length, its head, every waiting request in its ring, and how many have passed its oldest. A ring is gone over only where length and head fit.
 // Kept: that a class is below 16 is asked, as in `scheduler`.
 #[tactic(auto, unfolding(crate::specs::Waiting::place))]
 fn queue_in_range(classes: usize, ranks: u32, queues: &Queues, class: usize) -> bool
@@ -57,12 +57,10 @@ fn queue_in_range(classes: usize, ranks: u32, queues: &Queues, class: usize) -> 
 {
     let head = queues.heads[class];
     let length = queues.lengths[class];
-    (length <= RING_PLACES)
-        & (head < RING_PLACES)
-        & (0..RING_PLACES).all(|k| {
-            (length <= k) | right_word(classes, ranks, class, queues.slots[place(class, head, k)])
-        })
-        & (queues.passed[class] <= MOST_PASSED)
+    let fits = (length <= RING_PLACES) & (head < RING_PLACES);
+    fits && (0..RING_PLACES).all(|k| {
+        (length <= k) | right_word(classes, ranks, class, queues.slots[place(class, head, k)])
+    }) & (queues.passed[class] <= MOST_PASSED)
 }
 
 // Every class's queue is in range.

@@ -86,14 +86,14 @@ fn turns_in_range(p: &Policy, turns: &Turns) -> bool
     })
 }
 
-// The state's part of document 01's row 13.
+// The state's part of document 01's row 13. Where the counts do not fit, nothing else is looked at.
 fn state_in_range(s: State, p: Policy) -> bool
     ensures { result ≡ state_in_range p s }
 {
     counts_in_range(p, s)
-        & queues::queues_in_range(p.classes, p.timing.ranks, &s.queues)
-        & turns_in_range(&p, &s.turns)
-        & flight::flight_in_range(p.classes, p.timing, s.cycle, s.flight)
+        && queues::queues_in_range(p.classes, p.timing.ranks, &s.queues)
+            & turns_in_range(&p, &s.turns)
+            & flight::flight_in_range(p.classes, p.timing, s.cycle, s.flight)
 }
 
 // Whether a policy and a state handed in are in range: document 01's row 13 does not apply.

@@ -1,5 +1,5 @@
 -- `state::state_in_range` meets its contract: the definition, with what the callees promise; that the state is shaped is what its types say.
-use mathlib.Core.Path.{◌≡◌}
+use mathlib.Core.Path.{◌≡◌, sym, ◌∙◌}
 use mathlib.Core.Bool.{true}
 use borrow.Author.Rules.{rules}
 use borrow.Author.Tests.{eq-eqb}
@@ -31,7 +31,12 @@ well-shaped c =
     (eq-eqb _ 32 responses))
     (eq-eqb _ 32 banks)
 
-pub returns : goal.returns
+pub returns-then-counts_in_range : goal.returns-then-counts_in_range
 unfolding state_in_range
-returns c =
-    rw (well-shaped (goal.at.returns c).Start, c.flight_in_range.ensures, c.turns_in_range.ensures, c.queues_in_range.ensures, c.counts_in_range.ensures)
+returns-then-counts_in_range c =
+    rw (well-shaped (goal.at.returns-then-counts_in_range c).Start, sym c.counts_in_range.ensures ∙ c.if-counts_in_range.true, c.flight_in_range.ensures, c.turns_in_range.ensures, c.queues_in_range.ensures)
+
+pub returns-else-counts_in_range : goal.returns-else-counts_in_range
+unfolding state_in_range
+returns-else-counts_in_range c =
+    rw (well-shaped (goal.at.returns-else-counts_in_range c).Start, sym c.counts_in_range.ensures ∙ c.if-counts_in_range.false) c.if-counts_in_range.false

@@ -1,49 +1,55 @@
--- What the library's `filter` and `count` over the numbers below a bound answer in the words of basics' `Below`: at how many of them the test passes.
+-- What the library's `map` and `sum` over the numbers below a bound answer in the words of basics' `Below`, where the closure gives 1 for a number that passes and 0 for another: at how many of them the test passes.
 -- Assumes nothing.
 use mathlib.Core.Path.{◌≡◌, refl, sym, ap, ap₂, ◌∙◌}
 use mathlib.Core.Logic.{⊎_elim}
 use mathlib.Core.Bool.{Bool, true, false, cond}
-use mathlib.Core.List.{List, [], ◌∷◌, ◌++◌}
+use mathlib.Core.List.{List}
+use mir.Val.{bool_byte}
 use Prim.Native.Nat.{ℕ, zero, suc, ◌+◌, ◌*◌, ◌<◌}
 use native.Mathlib.Numerals.{add-one}
 use native.Mathlib.Omega.{arith}
-use lib.ListN.{length, length-append}
-use denote.Ref.{Bor}
 use denote.Param.Members.{Mut}
 use Rattle.std.specs.declared.ops.Range.{Range}
 use Rattle.std.specs.Iterator.{Drains}
-use Rattle.std.specs.Iterator.Adapters.{filter_steps, filter_source, filter_callee}
-use Rattle.std.specs.List.{filter, range_with_len}
-use Rattle.std.proofs.lemmas.Iterator.{YieldsList-from_range}
-use Rattle.std.proofs.lemmas.Iterator.Consumers.{YieldsList-from_filter, count_from_yields_List}
-use Rattle.std.proofs.lemmas.List.Elements.{filter-append}
+use Rattle.std.specs.Iterator.Runs.{EachRunFrom}
+use Rattle.std.specs.Iterator.Adapters.{map_source, map_callee}
+use Rattle.std.specs.Prelude.{⊤, map}
+use Rattle.std.specs.List.{fold, range_with_len}
+use Rattle.std.specs.List.{sum as total}
+use Rattle.std.proofs.lemmas.Iterator.{maps, YieldsList, YieldsList-from_range, YieldsList-from_map}
+use Rattle.std.proofs.lemmas.Iterator.Consumers.{sum_from_yields_List, fits_from_yields_list}
+use Rattle.std.proofs.lemmas.List.FromFn.{sum_by-map-range_with_len_more}
 use Rattle.basics.specs.Below.{sum, count}
+use Rattle.basics.proofs.Below.{count-le}
 use Rattle.basics.proofs.Truth.{either}
-use Rattle.basics.proofs.Ranges.{below, steps, TestsAt}
+use Rattle.basics.proofs.Ranges.{below, steps, Computes}
 
--- the last of n + 1 numbers
-last : (a n j : ℕ) → a + n ≡ j → range_with_len a (suc n) ≡ range_with_len a n ++ j ∷ []
-last a zero j e = ap (λ (k : ℕ). k ∷ []) (omega (arith, e))
-last a (suc n) j e = ap (λ (l : List ℕ). a ∷ l) (last (a + 1) n j (omega (arith, e)))
+-- a test as a number
+pub byte-of : (b : Bool) → bool_byte b ≡ cond b 1 0
+byte-of true = refl
+byte-of false = refl
 
 module _ (f : ℕ → Bool) where
-  passes : (n : ℕ) → length (filter f (n ∷ [])) ≡ cond (f n) 1 0
-  passes n = ⊎_elim (λ (e : f n ≡ true). rw e refl) (λ (e : f n ≡ false). rw e refl) (either (f n))
-
-  -- how many of the numbers below n pass
-  kept : (n : ℕ) → length (filter f (range_with_len 0 n)) ≡ count n f
+  -- the sum of the tests of the numbers below n is how many of them pass
+  tests-total : (n : ℕ) → total (map (λ i. bool_byte (f i)) (range_with_len 0 n)) ≡ count n f
   unfolding count sum
-  kept zero = refl
-  kept (suc n) =
-      ap (λ (l : List ℕ). length (filter f l)) (last 0 n n (omega arith))
-      ∙ ap length (filter-append f (range_with_len 0 n) (n ∷ []))
-      ∙ length-append (filter f (range_with_len 0 n)) (filter f (n ∷ []))
-      ∙ ap₂ ◌+◌ (kept n) (passes n)
+  tests-total zero = refl
+  tests-total (suc n) =
+      ap (λ (k : ℕ). total (map (λ i. bool_byte (f i)) (range_with_len 0 k))) (sym (add-one n))
+      ∙ sum_by-map-range_with_len_more (λ (x : ℕ). x) (λ i. bool_byte (f i)) 0 n n (omega arith)
+      ∙ ap₂ ◌+◌ (tests-total n) (byte-of (f n))
 
-  pub counted_below : {F : Type 0} {g : Mut F (Bor ℕ × Unit {0}) Bool} (n r : ℕ) (h : F) (s : _)
-      → ((xs : List ℕ) × Drains (filter_steps steps g) s xs × (r ≡ length xs)) → filter_source {I = Range ℕ} {F = F} s ≡ below n → filter_callee s ≡ h → TestsAt g h f → r ≡ count n f
-  counted_below {F} {g} n r h s ran source callee tests =
-      count_from_yields_List s r ran (YieldsList-from_filter g f (YieldsList-from_range 0 n n source (omega arith)) callee tests) ∙ kept n
+  module _ {F : Type 0} {g : Mut F (ℕ × Unit {0}) ℕ} (n : ℕ) (h : F) (s : _) (source : map_source {I = Range ℕ} {F = F} s ≡ below n) (callee : map_callee s ≡ h)
+      (tests : Computes g h (λ i. bool_byte (f i))) where
+    tests-listed : YieldsList (maps steps g) (λ x. x) s (map (λ i. bool_byte (f i)) (range_with_len 0 n))
+    tests-listed = YieldsList-from_map g (λ i. bool_byte (f i)) (YieldsList-from_range 0 n n source (omega arith)) callee tests
+
+    pub counted_below : (r : ℕ) → ((xs : List ℕ) × (⊤ → Drains (maps steps g) s xs) × (r ≡ fold (λ a x. a + x) 0 xs)) → r ≡ count n f
+    counted_below r ran = sum_from_yields_List s r ran tests-listed ∙ tests-total n
+
+    -- and it fits, since no more of them pass than there are
+    pub count-fits : (top : ℕ) → n < top → EachRunFrom (maps steps g) s (λ p. fold (λ a x. a + x) 0 p.items < top)
+    count-fits top small = fits_from_yields_list s top tests-listed (omega (arith, tests-total n, count-le f n, small))
 
   -- what is 0 at first, and c more after each number that passes
   pub counted_up : (g : ℕ → ℕ) (c n : ℕ) → g 0 ≡ 0 → ((i : ℕ) → i < n → g (i + 1) ≡ g i + cond (f i) c 0) → c * count n f ≡ g n

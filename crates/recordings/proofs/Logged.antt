@@ -71,11 +71,15 @@ ticks-more trace log i h =
     let line : tick_in w (drop (4 * length (take i trace)) log) 0 ≡ tick_in w log (4 * i) = ap (λ (n : ℕ). tick_in w (drop (4 * n) log) 0) size ∙ tick-past w log (4 * i) in
     rw (add-one i) (ap (λ (l : List ℕ). ticks_in l log) (take-suc trace i 0 h) ∙ omega (arith, cut, line))
 
--- so they are those of the trace numbers that are ticks
-pub ticks-counted : (trace log : List ℕ) → count (length trace) (λ i. is_tick (get_or trace i 0) (get_or log (4 * i) 0)) ≡ ticks_in trace log
+-- whether trace number i is a tick that was made
+abbrev pub tick_at : List ℕ → List ℕ → ℕ → Bool
+tick_at trace log i = is_tick (get_or trace i 0) (get_or log (4 * i) 0)
+
+-- so they are those of the trace numbers that are
+pub ticks-counted : (trace log : List ℕ) → count (length trace) (tick_at trace log) ≡ ticks_in trace log
 unfolding ticks_in tick_in
 ticks-counted trace log =
-    let all = counted_up (λ i. is_tick (get_or trace i 0) (get_or log (4 * i) 0)) (λ i. ticks_in (take i trace) log) 1 (length trace) refl (ticks-more trace log) in
+    let all = counted_up (tick_at trace log) (λ i. ticks_in (take i trace) log) 1 (length trace) refl (ticks-more trace log) in
     omega (arith, all, ap (λ (l : List ℕ). ticks_in l log) (take_all (length trace) trace (omega arith)))
 
 pub ticks-part : (trace log : List ℕ) (n : ℕ) → ticks_in (take n trace) log ≤ ticks_in trace log
@@ -141,6 +145,24 @@ module _ (activates : Bool) where
 
   size-more : (trace log : List ℕ) (t i : ℕ) → i < length trace → length (recording_of activates t (take (i + 1) trace) log) ≡ length (recording_of activates t (take i trace) log) + length (event_of trace log t i)
   size-more trace log t i h = ap length (recording-more trace log t i h) ∙ length-append (recording_of activates t (take i trace) log) (event_of trace log t i)
+
+  -- a number that shows a word adds two, and another none
+  pub size-two : (trace log : List ℕ) (t i : ℕ)
+      → i < length trace
+      → ((word_shown activates (get_or trace i 0) log (4 * i) ≡ 0) → ⊥)
+      → length (recording_of activates t (take (i + 1) trace) log) ≡ length (recording_of activates t (take i trace) log) + 2
+  size-two trace log t i h some =
+      size-more trace log t i h
+      ∙ ap (λ (l : List ℕ). length (recording_of activates t (take i trace) log) + length l) (an-event (t + ticks_in (take i trace) log) (word_shown activates (get_or trace i 0) log (4 * i)) some)
+
+  pub size_same : (trace log : List ℕ) (t i : ℕ)
+      → i < length trace
+      → word_shown activates (get_or trace i 0) log (4 * i) ≡ 0
+      → length (recording_of activates t (take (i + 1) trace) log) ≡ length (recording_of activates t (take i trace) log)
+  size_same trace log t i h none =
+      size-more trace log t i h
+      ∙ ap (λ (l : List ℕ). length (recording_of activates t (take i trace) log) + length l) (no-event (t + ticks_in (take i trace) log) (word_shown activates (get_or trace i 0) log (4 * i)) none)
+      ∙ omega arith
 
   -- so the trace numbers that show a word count it
   pub size-counted : (trace log : List ℕ) (t : ℕ) → 2 * count (length trace) (λ i. not (eqb (word_shown activates (get_or trace i 0) log (4 * i)) 0)) ≡ length (recording_of activates t trace log)
@@ -209,6 +231,9 @@ module _ (activates : Bool) (trace log : List ℕ) (start : ℕ) (out : List ℕ
 
 -- what `make` goes by
 pub ruleset making = (ticks_few, same_size, four-times)
+
+-- what `Lines::size` goes by
+pub ruleset sizing = (size-two, size_same, take_all)
 
 -- what `Lines::write` goes by
 pub ruleset writing = (ticks-more, ticks-part, event-fits, event-more)

@@ -1,6 +1,5 @@
 -- `recordings::Lines::write` meets its contract. The invariant: written is the recording of the first `i` lines, and `t` is the cycle after them.
-use mathlib.Core.Path.{◌≡◌, refl, ap, ap₂, ◌∙◌}
-use mathlib.Core.Bool.{Bool, true, false, cond}
+use mathlib.Core.Path.{◌≡◌, ap, ap₂, ◌∙◌}
 use mathlib.Core.List.{List}
 use mir.Val.{bool_byte}
 use Prim.Native.Nat.{ℕ, ◌+◌, ◌*◌}
@@ -8,13 +7,9 @@ use native.Mathlib.Omega.{arith}
 use lib.ListN.{length, get_or}
 use lib.Seq.{sets}
 use Rattle.recordings.specs.Logged.{tick_in, event_at}
+use Rattle.recordings.proofs.Counts.{byte-of}
 use Rattle.recordings.proofs.Logged.{ticks-more, event_of, event-more}
 use Rattle.recordings.proofs.Lines.write.Goals as goal
-
--- the cycle moves as the line says
-byte-of : (b : Bool) → bool_byte b ≡ cond b 1 0
-byte-of true = refl
-byte-of false = refl
 
 pub loop-i-preserved : goal.loop-i-preserved
 unfolding tick_in

@@ -48,14 +48,15 @@ fn due_fits(wires: &[u32], delay: u8) -> bool
 }
 
 // The question: whether both are sound, and which one is not.
+// `||`, so that nothing is read behind a test that fails. With `|` in its place vigambul_match would take a quarter more time.
 #[tactic(auto, unfolding(crate::specs::Recording::soundness, crate::specs::Recording::wires_sound, crate::specs::Recording::cores_sound, crate::specs::Recording::in_pairs))]
 pub fn unsound(wires: &[u32], cores: &[u32], delay: u8) -> Result<(), Fault>
     ensures { result ≡ soundness delay wires.now cores.now }
 {
-    if (wires.len() % 2 != 0) | !rises(wires) | !due_fits(wires, delay) {
+    if (wires.len() % 2 != 0) || !rises(wires) || !due_fits(wires, delay) {
         return Err(Fault::Wires);
     }
-    if (cores.len() % 2 != 0) | !rises(cores) {
+    if (cores.len() % 2 != 0) || !rises(cores) {
         return Err(Fault::Cores);
     }
     Ok(())

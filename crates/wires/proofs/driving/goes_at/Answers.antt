@@ -60,7 +60,7 @@ pub loop-k-init : goal.loop-k-init
 loop-k-init c = (λ given. (missed-none _ _, λ i l. absurd (not-suc-le-zero l)), (λ past. absurd (not-suc-le-zero past)), omega (arith, c.ranges.cycle.fits))
 
 pub returns-then-opens-now-clause-waits : goal.returns-then-opens-now-clause-waits
-returns-then-opens-now-clause-waits c = waits (goal.at.returns-then-opens-now-clause-waits c).After-opens_of-opens
+returns-then-opens-now-clause-waits c = search (waits (goal.at.returns-then-opens-now-clause-waits c).After-opens_of-opens)
 
 pub returns-then-opens-now-clause-looks : goal.returns-then-opens-now-clause-looks
 unfolding goes_at

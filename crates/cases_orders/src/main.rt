@@ -88,7 +88,7 @@ fn one_case(rt: &impl Print, case: &Case) -> io::Result<()> {
     }
 }
 
-// Kept: in each test program, since a function that is handed what to do with a case asks that it may be called, and no public function asks anything of its caller (README.md).
+// Kept: the loop over the lines stands in each test program, since a function that is handed what to do with a case asks that it may be called, and no public function asks anything of its caller (README.md).
 fn main(rt: HostRuntime) -> io::Result<()> {
     let mut buffer = [0u8; 65536];
     let count = script::read(&mut rt.stdin(), &mut buffer)?;
